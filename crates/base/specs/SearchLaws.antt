@@ -1,0 +1,48 @@
+-- One turn of the loops that mirror a definition: what the definition gives from here on is what it gives from the next place on. Assumes nop.
+use mathlib.Core.Path.{_≡_, refl, sym, ap, _∙_}
+use mathlib.Core.Bool.{Bool, true, false, _&&_}
+use mathlib.Core.List.{List, []}
+use mathlib.Core.Option.{Option, none, some}
+use Prim.Native.Nat.{ℕ, suc, _+_, _-_, _≤_, _<_}
+use native.Mathlib.Numerals.{add-one}
+use native.Mathlib.Omega.{arith}
+use borrow.Author.Tests.{eq-eqb, ne-eqb}
+use lib.Dec.{eqb}
+use lib.ListN.{getD, length, drop, drop-of-length-le}
+use lib.Seq.{drop-cons}
+use Rattle.base.specs.Lists.{zeros, firstBad}
+
+-- ---- `zeros`
+
+pub zeros-more : (s : List ℕ) (i : ℕ) → i < length s → getD s i 0 ≡ 0 → zeros (drop i s) ≡ zeros (drop (i + 1) s)
+unfolding zeros
+zeros-more s i h e = ap zeros (drop-cons s i 0 h) ∙ ap (λ (b : Bool). b && zeros (drop (suc i) s)) (eq-eqb (getD s i 0) 0 e) ∙ ap (λ (k : ℕ). zeros (drop k s)) (sym (add-one i))
+
+pub zeros-stop : (s : List ℕ) (i : ℕ) → i < length s → (getD s i 0 ≡ 0 → ⊥) → zeros (drop i s) ≡ false
+unfolding zeros
+zeros-stop s i h e = ap zeros (drop-cons s i 0 h) ∙ ap (λ (b : Bool). b && zeros (drop (suc i) s)) (ne-eqb (getD s i 0) 0 e)
+
+pub zeros-end : (s : List ℕ) (i : ℕ) → length s ≤ i → zeros (drop i s) ≡ true
+unfolding zeros
+zeros-end s i h = ap zeros (drop-of-length-le s h)
+
+-- ---- the search, from k to `to`
+
+pub bad-more : (to k : ℕ) (ok : ℕ → Bool) → k < to → ok k ≡ true → firstBad (to - k) k ok ≡ firstBad (to - (k + 1)) (k + 1) ok
+unfolding firstBad
+bad-more to k ok h e =
+    let size : to - k ≡ suc (to - (k + 1)) = omega arith in
+    ap (λ (n : ℕ). firstBad n k ok) size
+    ∙ ap (λ (b : Bool). elim b as (λ _. Option ℕ) [ true ↦ firstBad (to - (k + 1)) (suc k) ok | false ↦ some k ]) e
+    ∙ ap (λ (j : ℕ). firstBad (to - (k + 1)) j ok) (sym (add-one k))
+
+pub bad-stop : (to k : ℕ) (ok : ℕ → Bool) → k < to → ok k ≡ false → firstBad (to - k) k ok ≡ some k
+unfolding firstBad
+bad-stop to k ok h e =
+    let size : to - k ≡ suc (to - (k + 1)) = omega arith in
+    ap (λ (n : ℕ). firstBad n k ok) size
+    ∙ ap (λ (b : Bool). elim b as (λ _. Option ℕ) [ true ↦ firstBad (to - (k + 1)) (suc k) ok | false ↦ some k ]) e
+
+pub bad-end : (to k : ℕ) (ok : ℕ → Bool) → to ≤ k → firstBad (to - k) k ok ≡ none
+unfolding firstBad
+bad-end to k ok h = let size : to - k ≡ 0 = omega arith in ap (λ (n : ℕ). firstBad n k ok) size
