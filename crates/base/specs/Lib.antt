@@ -5,3 +5,5 @@ pub mod Refusals
 pub mod ListLaws
 pub mod SearchLaws
 pub mod JoinLaws
+pub mod CopyLaws
+pub mod WriteLaws
