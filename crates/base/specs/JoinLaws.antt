@@ -1,4 +1,4 @@
--- Where the pieces of `joins` stand, and what `count` and `total` count. Assumes nop.
+-- Where the pieces of `joins` stand, and what `count` and `total` count. Assumes nothing.
 use mathlib.Core.Path.{_≡_, refl, sym, ap, ap₂, _∙_}
 use mathlib.Core.Bool.{Bool, true, false, cond}
 use mathlib.Core.List.{List, _++_}

@@ -5,5 +5,6 @@ pub mod Refusals
 pub mod ListLaws
 pub mod SearchLaws
 pub mod JoinLaws
+pub mod PartLaws
 pub mod CopyLaws
 pub mod WriteLaws

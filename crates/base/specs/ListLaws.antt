@@ -1,7 +1,7 @@
--- What is in the lists that the definitions make, and where. Assumes nop.
+-- What is in the lists that the definitions make, and where. Assumes nothing.
 use mathlib.Core.Path.{_≡_, refl, sym, ap, ap₂, _∙_, subst}
 use mathlib.Core.Logic.{_⊎_, inl, inr, _≢_, ⊎-elim}
-use mathlib.Core.Bool.{Bool, true, false, cond, _||_, _&&_, true≢false}
+use mathlib.Core.Bool.{Bool, true, false, cond, not, _||_, _&&_, true≢false}
 use mathlib.Core.List.{List, [], _∷_, _++_, map, List·Memᴰ, List·Memᴰ·head, List·Memᴰ·tail, List·Memᴰ·not-nil, List·Memᴰ·cases-cons, List·Memᴰ·append-cases, List·Memᴰ·eq-of-singleton, Memᴰ·append-left, Memᴰ·append-right, Memᴰ·cast}
 use Prim.Native.Nat.{ℕ, zero, suc, _+_, _*_, _≤_, _<_, zero-le, suc-le-suc}
 use native.Mathlib.Nat.{not-suc-le-zero, le-of-suc-le-suc, zero-lt-suc, le-refl, add-zero, add-suc, suc-add, suc-mul}
@@ -10,7 +10,7 @@ use native.Mathlib.Omega.{arith}
 use borrow.Author.Tests.{eqb-true, eqb-false, eq-eqb, ne-eqb}
 use lib.Dec.{eqb}
 use lib.ListN.{getD, set, length, take, drop, replicate}
-use Rattle.base.specs.Lists.{tab, keep, gather, over, sum, has, place, firsts}
+use Rattle.base.specs.Lists.{all, tab, keep, gather, over, sum, has, place, firsts}
 
 -- ---- tests
 
@@ -26,6 +26,14 @@ pub and-true : (a b : Bool) → a && b ≡ true → (a ≡ true) × (b ≡ true)
 and-true true b e = (refl, e)
 and-true false b e = absurd (true≢false (sym e))
 
+pub or-not : (a b : Bool) → not a || b ≡ true → a ≡ true → b ≡ true
+or-not true b e t = e
+or-not false b e t = absurd (true≢false (sym t))
+
+pub not-true : (a : Bool) → not a ≡ true → a ≡ false
+not-true true e = absurd (true≢false (sym e))
+not-true false e = refl
+
 -- by cases on a test, whose answer each case is told
 pub by-test : (P : Bool → Type 0) (b : Bool) → (b ≡ true → P true) → (b ≡ false → P false) → P b
 by-test P true t f = t refl
@@ -38,6 +46,15 @@ by-eq {P} a b y n = go (ℕ-discrete a b)
     go : Dec (a ≡ b) → P
     go (yes e) = y e
     go (no h) = n h
+
+-- ---- `all`, `has`
+
+pub all-in : (f : ℕ → Bool) (xs : List ℕ) → all f xs ≡ true → (x : ℕ) → List·Memᴰ x xs → f x ≡ true
+unfolding all
+all-in f [] e x i = absurd (List·Memᴰ·not-nil i)
+all-in f (y ∷ ys) e x i =
+    let r = and-true (f y) (all f ys) e in
+    ⊎-elim (λ s. ap f s ∙ r .0) (λ t. all-in f ys (r .1) x t) (List·Memᴰ·cases-cons i)
 
 pub has-in : (k : ℕ) (xs : List ℕ) → has k xs ≡ true → List·Memᴰ k xs
 unfolding has

@@ -1,0 +1,5 @@
+pub mod Layout
+pub mod Checks
+pub mod CheckLaws
+pub mod EncodeLaws
+pub mod AcceptLaws

@@ -1,0 +1,4 @@
+pub mod Kinds
+pub mod Successors
+pub mod KindLaws
+pub mod SuccessorLaws
