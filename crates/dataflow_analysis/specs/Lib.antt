@@ -1,0 +1,6 @@
+pub mod Lattice
+pub mod Worklist
+pub mod LatticeLaws
+pub mod WorklistLaws
+pub mod LeastLaws
+pub mod MaskList
