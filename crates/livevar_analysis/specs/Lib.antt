@@ -5,3 +5,6 @@ pub mod LiveLaws
 pub mod RuleLaws
 pub mod AnalysisLaws
 pub mod Term3
+pub mod RewriteLaws
+pub mod RewriteAccepted
+pub mod Walk
