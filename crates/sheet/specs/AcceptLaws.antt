@@ -98,7 +98,7 @@ unique-fresh code u k h =
 
 pub record Body (l : ℕ) (code : List Bytecode) : Type 0 where
   pub some : 1 ≤ length code
-  pub few : length code ≤ 1024
+  pub few : length code ≤ maxInstructions
   pub fits : (k : ℕ) → k < length code → recordOk (at code k) ≡ true
   pub encodes : (k : ℕ) → k < length code → Encodes (at code k)
   pub locals : (k : ℕ) → k < length code → localsOk l (at code k) ≡ true

@@ -3,3 +3,5 @@ pub mod Checks
 pub mod CheckLaws
 pub mod EncodeLaws
 pub mod AcceptLaws
+pub mod AcceptedLaws
+pub mod Valid
