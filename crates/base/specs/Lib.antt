@@ -7,3 +7,4 @@ pub mod SearchLaws
 pub mod JoinLaws
 pub mod PartLaws
 pub mod CopyLaws
+pub mod ByteLaws

@@ -3,3 +3,4 @@ pub mod Checks
 pub mod CheckLaws
 pub mod EncodeLaws
 pub mod AcceptLaws
+pub mod BlockLaws
