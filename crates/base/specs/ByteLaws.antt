@@ -1,18 +1,17 @@
 -- One turn of a loop over bytes: their sum, and whether the number in them has no bit at or above a place. Assumes nothing.
 use mathlib.Core.Path.{_≡_, refl, sym, ap, ap₂, _∙_}
-use mathlib.Core.Bool.{Bool, true, false, _&&_, true≢false}
+use mathlib.Core.Bool.{Bool, true, false, _&&_, _||_, and-true as and-unit, and-assoc}
 use mathlib.Core.List.{List}
-use Prim.Native.Nat.{ℕ, suc, _+_, _-_, _*_, _/_, _^_, _≤_, _<_}
+use Prim.Native.Nat.{ℕ, suc, _+_, _-_, _*_, _/_, _^_, _≤_, _<_, max}
 use native.Mathlib.Nat.{one-mul, div-eq-of-lt, le-div-iff-mul-le}
 use native.Mathlib.Numerals.{add-one}
-use native.Mathlib.Decide.{decLt}
 use native.Mathlib.Omega.{arith}
 use borrow.Author.Tests.{lt-ltb, le-ltb, ltb-true, eq-eqb, ne-eqb}
 use lib.Dec.{eqb, ltb}
 use lib.ListN.{getD, length, drop, drop-of-length-le}
 use lib.Pow.{pow-pos, pow-mono, pow-add}
 use lib.Seq.{drop-cons}
-use Rattle.base.specs.Lists.{sum}
+use Rattle.base.specs.Lists.{sum, zeros}
 use Rattle.base.specs.Bytes.{number}
 use Rattle.base.specs.ListLaws.{and-true}
 use Rattle.base.specs.JoinLaws.{by-lt}
@@ -26,6 +25,19 @@ sum-more s i h = ap sum (drop-cons s i 0 h) ∙ ap (λ (k : ℕ). getD s i 0 + s
 pub sum-end : (s : List ℕ) (i : ℕ) → length s ≤ i → sum (drop i s) ≡ 0
 unfolding sum
 sum-end s i h = ap sum (drop-of-length-le s h)
+
+-- ---- zeros from n on, each place looked at
+
+pub zeros-from : (s : List ℕ) (n i : ℕ) (b : Bool) → i < length s → b && zeros (drop (max i n) s) ≡ b && (ltb i n || eqb (getD s i 0) 0) && zeros (drop (max (i + 1) n) s)
+unfolding zeros
+zeros-from s n i b h =
+    by-lt i n
+    (λ l. let now : max i n ≡ n = omega arith in
+    let next : max (i + 1) n ≡ n = omega arith in
+    rw (now, next, lt-ltb i n l, and-unit b))
+    (λ l. let now : max i n ≡ i = omega arith in
+    let next : max (i + 1) n ≡ suc i = omega arith in
+    rw (now, next, le-ltb i n l, drop-cons s i 0 h, and-assoc b))
 
 -- ---- the number
 

@@ -4,3 +4,4 @@ pub mod CheckLaws
 pub mod EncodeLaws
 pub mod AcceptLaws
 pub mod BlockLaws
+pub mod RecordLaws

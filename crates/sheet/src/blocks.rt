@@ -8,7 +8,6 @@ ghost use Rattle.base.specs.Lists.{sum, firstBad};
 ghost use Rattle.base.specs.Bytes.{number};
 ghost use Rattle.sheet.specs.Layout.{blockAt, recordBlocks};
 ghost use Rattle.sheet.specs.Checks.{foundOf, lengthOk, blockOk, headingOk};
-ghost use Rattle.sheet.specs.BlockLaws.{countsOk};
 use crate::Found;
 use crate::reader::all_zero;
 use crate::reader::u16_at;
@@ -29,13 +28,7 @@ const REFS_END: usize = REFS_AT + SET_BYTES;
 pub fn length_ok(n: usize) -> bool
     ensures { λ r. ⌜ r ≡ lengthOk n ⌝ }
 {
-    if n % BLOCK_BYTES != 0 {
-        return false;
-    }
-    if n < 2 * BLOCK_BYTES {
-        return false;
-    }
-    n <= MAX_BYTES
+    (n % BLOCK_BYTES == 0) & (2 * BLOCK_BYTES <= n) & (n <= MAX_BYTES)
 }
 
 // The sum of the bytes.
@@ -57,17 +50,11 @@ pub fn block_ok(p: &[u8], b: usize) -> bool
     requires { ⌜ length (now p) ≡ blockBytes ⌝ }
     ensures { λ r. ⌜ r ≡ blockOk (now (p .entry)) b ⌝ }
 {
-    if u16_at(p, 0) as usize != b {
-        return false;
-    }
+    let number = u16_at(p, 0) as usize;
+    let check = u16_at(p, 2) as usize;
     let t = total(&p[0..2]) + total(&p[4..BLOCK_BYTES]);
-    if u16_at(p, 2) as usize != t % 65536 {
-        return false;
-    }
-    if b == 0 {
-        return true;
-    }
-    all_zero(&p[4..RECORDS_FROM])
+    let clear = all_zero(&p[4..RECORDS_FROM]);
+    (number == b) & (check == t % 65536) & ((b == 0) | clear)
 }
 
 // Check 2: the first block that is wrong.
@@ -131,25 +118,6 @@ pub fn record_blocks(n: usize) -> usize
     (n + (BLOCK_RECORDS - 1)) / BLOCK_RECORDS
 }
 
-// The four counts of a heading: instructions, locals, user locals, parameters.
-fn counts_ok(n: usize, locals: usize, users: usize, parameters: usize) -> bool
-    ensures { λ r. ⌜ r ≡ countsOk n locals users parameters ⌝ }
-{
-    if n < 1 {
-        return false;
-    }
-    if n > MAX_INSTRUCTIONS {
-        return false;
-    }
-    if locals > MAX_LOCALS {
-        return false;
-    }
-    if users > locals {
-        return false;
-    }
-    parameters <= users
-}
-
 // Check 3: the heading, and as many blocks as its instructions need.
 pub fn heading_ok(s: &[u8]) -> bool
     requires { ⌜ 2 * blockBytes ≤ length (now s) ⌝ }
@@ -159,17 +127,17 @@ pub fn heading_ok(s: &[u8]) -> bool
     let locals = u16_at(s, 6) as usize;
     let users = u16_at(s, 8) as usize;
     let parameters = u16_at(s, 10) as usize;
-    if !counts_ok(n, locals, users, parameters) {
-        return false;
-    }
-    if !all_zero(&s[12..REFS_AT]) {
-        return false;
-    }
-    if !mask_below(&s[REFS_AT..REFS_END], locals) {
-        return false;
-    }
-    if !all_zero(&s[REFS_END..BLOCK_BYTES]) {
-        return false;
-    }
-    s.len() == BLOCK_BYTES * (1 + record_blocks(n))
+    let clear = all_zero(&s[12..REFS_AT]);
+    let refs = mask_below(&s[REFS_AT..REFS_END], locals);
+    let rest = all_zero(&s[REFS_END..BLOCK_BYTES]);
+    let blocks = 1 + record_blocks(n);
+    (1 <= n)
+        & (n <= MAX_INSTRUCTIONS)
+        & (locals <= MAX_LOCALS)
+        & (users <= locals)
+        & (parameters <= users)
+        & clear
+        & refs
+        & rest
+        & (s.len() == BLOCK_BYTES * blocks)
 }
