@@ -5,3 +5,5 @@ pub mod EncodeLaws
 pub mod AcceptLaws
 pub mod AcceptedLaws
 pub mod Valid
+pub mod BlockLaws
+pub mod RecordLaws

@@ -2,6 +2,8 @@
 use base::Refusal;
 
 pub mod reader; // reader.rt: numbers, lists and records out of bytes
+pub mod blocks; // blocks.rt: checks 1 to 3
+pub mod records; // records.rt: check 4
 
 // What the checks say of a sheet.
 pub enum Checked {
