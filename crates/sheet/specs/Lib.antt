@@ -1,5 +1,7 @@
 pub mod Layout
 pub mod Checks
+pub mod Shaped
 pub mod CheckLaws
 pub mod EncodeLaws
 pub mod AcceptLaws
+pub mod LocalLaws
