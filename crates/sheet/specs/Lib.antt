@@ -5,3 +5,6 @@ pub mod CheckLaws
 pub mod EncodeLaws
 pub mod AcceptLaws
 pub mod LocalLaws
+pub mod Labelled
+pub mod LabelLaws
+pub mod NameLaws
