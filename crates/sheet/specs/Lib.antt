@@ -12,3 +12,4 @@ pub mod LocalLaws
 pub mod Labelled
 pub mod LabelLaws
 pub mod NameLaws
+pub mod FormLaws
