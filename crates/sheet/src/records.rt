@@ -55,7 +55,7 @@ pub fn shape_of(kind: u8) -> Shape
     match kind {
         // Assign
         0 => row(3, 1, 1, 1, 1, false, false, false, false),
-        // Call
+        // Call: the operations 0 to 54
         1 => row(55, 0, MOST, 0, MOST, false, false, true, true),
         // Ret
         2 => row(1, 0, 0, 0, MOST, false, false, false, false),
