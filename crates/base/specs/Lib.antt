@@ -7,4 +7,5 @@ pub mod SearchLaws
 pub mod JoinLaws
 pub mod PartLaws
 pub mod CopyLaws
+pub mod WriteLaws
 pub mod ByteLaws

@@ -1,22 +1,26 @@
 -- What is in the lists that the definitions make, and where. Assumes nothing.
-use mathlib.Core.Path.{_≡_, refl, sym, ap, _∙_, subst}
+use mathlib.Core.Path.{_≡_, refl, sym, ap, ap₂, _∙_, subst}
 use mathlib.Core.Logic.{_⊎_, inl, inr, _≢_, ⊎-elim}
 use mathlib.Core.Bool.{Bool, true, false, cond, not, _||_, _&&_, true≢false}
 use mathlib.Core.List.{List, [], _∷_, _++_, map, List·Memᴰ, List·Memᴰ·head, List·Memᴰ·tail, List·Memᴰ·not-nil, List·Memᴰ·cases-cons, List·Memᴰ·append-cases, List·Memᴰ·eq-of-singleton, Memᴰ·append-left, Memᴰ·append-right, Memᴰ·cast}
-use Prim.Native.Nat.{ℕ, zero, suc, _+_, _≤_, _<_, suc-le-suc}
-use native.Mathlib.Nat.{not-suc-le-zero, le-of-suc-le-suc, zero-lt-suc, add-zero, add-suc, suc-add}
+use Prim.Native.Nat.{ℕ, zero, suc, _+_, _*_, _≤_, _<_, zero-le, suc-le-suc}
+use native.Mathlib.Nat.{not-suc-le-zero, le-of-suc-le-suc, zero-lt-suc, le-refl, add-zero, add-suc, suc-add, suc-mul}
 use native.Mathlib.Decide.{ℕ-discrete}
 use native.Mathlib.Omega.{arith}
 use borrow.Author.Tests.{eqb-true, eqb-false, eq-eqb, ne-eqb}
 use lib.Dec.{eqb}
-use lib.ListN.{getD, length, take, drop}
-use Rattle.base.specs.Lists.{all, tab, keep, gather, has, place, firsts}
+use lib.ListN.{getD, set, length, take, drop, replicate}
+use Rattle.base.specs.Lists.{all, tab, keep, gather, over, sum, has, place, firsts}
 
 -- ---- tests
 
 pub or-false : (a b : Bool) → a || b ≡ false → (a ≡ false) × (b ≡ false)
 or-false true b e = absurd (true≢false e)
 or-false false b e = (refl, e)
+
+pub or-true : (a b : Bool) → a || b ≡ true → (a ≡ true) ⊎ (b ≡ true)
+or-true true b e = inl refl
+or-true false b e = inr e
 
 pub and-true : (a b : Bool) → a && b ≡ true → (a ≡ true) × (b ≡ true)
 and-true true b e = (refl, e)
@@ -66,6 +70,12 @@ in-has k (x ∷ xs) i =
     by-test (λ b. b || has k xs ≡ true) (eqb k x) (λ q. refl)
     (λ q. ⊎-elim (λ e. absurd (eqb-false k x q e)) (λ t. in-has k xs t) (List·Memᴰ·cases-cons i))
 
+-- whether a number is in a list
+pub find-in : (k : ℕ) (xs : List ℕ) → Dec (List·Memᴰ k xs)
+find-in k xs =
+    by-test (λ b. has k xs ≡ b → Dec (List·Memᴰ k xs)) (has k xs) (λ e q. yes (has-in k xs e))
+    (λ e q. no (λ i. true≢false (sym (in-has k xs i) ∙ e))) refl
+
 -- ---- `keep`
 
 pub keep-in : (n k x : ℕ) (f : ℕ → Bool) → k ≤ x → x < k + n → f x ≡ true → List·Memᴰ x (keep n k f)
@@ -91,6 +101,25 @@ in-keep (suc n) k x f i =
   where
     later : Kept n (suc k) x f → Kept (suc n) k x f
     later r = record { low = omega arith; high = omega arith; test = r .test }
+
+-- two tests that agree from k on keep the same
+pub keep-same : (n k : ℕ) (f g : ℕ → Bool) → ((i : ℕ) → k ≤ i → f i ≡ g i) → keep n k f ≡ keep n k g
+unfolding keep
+keep-same zero k f g h = refl
+keep-same (suc n) k f g h =
+    ap₂ (λ (t : Bool) (l : List ℕ). cond t (k ∷ l) l) (h k (le-refl k)) (keep-same n (suc k) f g (λ i q. h i (omega arith)))
+
+-- each element is larger than the one before it, and the first is k or more
+pub data Ascending : ℕ → List ℕ → Type 0 where
+  end : {k : ℕ} → Ascending k []
+  then : {k x : ℕ} {xs : List ℕ} → k ≤ x → Ascending (suc x) xs → Ascending k (x ∷ xs)
+
+pub keep-ascending : (n k j : ℕ) (f : ℕ → Bool) → j ≤ k → Ascending j (keep n k f)
+unfolding keep
+keep-ascending zero k j f h = end
+keep-ascending (suc n) k j f h =
+    by-test (λ b. Ascending j (cond b (k ∷ keep n (suc k) f) (keep n (suc k) f))) (f k)
+    (λ e. then h (keep-ascending n (suc k) (suc k) f (le-refl (suc k)))) (λ e. keep-ascending n (suc k) j f (omega arith))
 
 -- ---- `gather`, `map`
 
@@ -233,3 +262,35 @@ place-getD zero (one {x = x} {xs = xs} g d) h = ap (λ b. cond b 0 (suc (place x
 place-getD (suc k) (one {x = x} {xs = xs} g d) h =
     ap (λ b. cond b 0 (suc (place (getD xs k 0) xs))) (ne-eqb (getD xs k 0) x (λ e. g (Memᴰ·cast (sym e) (getD-in xs k 0 (le-of-suc-le-suc h)))))
     ∙ ap suc (place-getD k d (le-of-suc-le-suc h))
+
+-- ---- `over`
+
+pub over-append : {A B : Type 0} (f : B → A → B) (b : B) (xs ys : List A) → over f b (xs ++ ys) ≡ over f (over f b xs) ys
+unfolding over
+over-append f b [] ys = refl
+over-append f b (x ∷ xs) ys = over-append f (f b x) xs ys
+
+-- ---- a repeated element, and the sum of a list
+
+pub copies-at : {A : Type 0} (n j : ℕ) (a : A) → getD (replicate n a) j a ≡ a
+copies-at zero j a = refl
+copies-at (suc n) zero a = refl
+copies-at (suc n) (suc j) a = copies-at n j a
+
+pub map-set : {A B : Type 0} (f : A → B) (l : List A) (i : ℕ) (v : A) → map f (set l i v) ≡ set (map f l) i (f v)
+map-set f [] i v = refl
+map-set f (x ∷ xs) zero v = refl
+map-set {B = B} f (x ∷ xs) (suc i) v = ap (λ (l : List B). f x ∷ l) (map-set f xs i v)
+
+-- a store changes the sum by what it changes there
+pub sum-set : (l : List ℕ) (i v : ℕ) → i < length l → sum (set l i v) + getD l i 0 ≡ sum l + v
+unfolding sum
+sum-set [] i v h = absurd (not-suc-le-zero h)
+sum-set (x ∷ xs) zero v h = omega arith
+sum-set (x ∷ xs) (suc i) v h = omega (arith, sum-set xs i v (le-of-suc-le-suc h))
+
+pub sum-le : (b : ℕ) (l : List ℕ) → ((i : ℕ) → i < length l → getD l i 0 ≤ b) → sum l ≤ length l * b
+unfolding sum
+sum-le b [] h = zero-le
+sum-le b (x ∷ xs) h =
+    omega (arith, h 0 (zero-lt-suc (length xs)), sum-le b xs (λ i k. h (suc i) (suc-le-suc k)), suc-mul (length xs) b)

@@ -1,0 +1,12 @@
+pub mod Mask
+pub mod Words
+pub mod Members
+pub mod Sets
+pub mod MaskLaws
+pub mod WordLaws
+pub mod LoopLaws
+pub mod SliceLaws
+pub mod MemberLaws
+pub mod WalkLaws
+pub mod ByteLaws
+pub mod SetLaws

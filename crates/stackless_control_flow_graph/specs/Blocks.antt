@@ -1,0 +1,77 @@
+-- Where blocks start and end, their keys, and the flow table. All over the list of instructions. Assumes nothing.
+use Prim.Native.Nat.{ℕ, zero, suc, _-_, _*_}
+use mathlib.Core.Bool.{Bool, true, false, cond, _||_}
+use mathlib.Core.List.{List, [], _∷_, _++_, map}
+use lib.ListN.{length, take, replicate}
+use Rattle.base.specs.Lists.{keep, gather, has, place, firsts}
+use Rattle.base.specs.Refusals.{Reply, Done, reply}
+use Rattle.stackless_bytecode.specs.declared.Bytecode.{Bytecode}
+use Rattle.stackless_bytecode.specs.Kinds.{at, isExit, isBranch, branchDests}
+use Rattle.stackless_bytecode.specs.Successors.{labelOffset, successors}
+use Rattle.sheet.specs.Layout.{codeOf}
+use Rattle.sheet.specs.Checks.{checkSheet}
+
+-- ---- blocks
+
+-- the offsets of the Labels that are named, by any Branch, Jump or flagged Call
+unfoldable pub targets : List Bytecode → List ℕ
+targets code = map (labelOffset code) (gather branchDests code)
+
+-- a block starts at 0, at every named Label, and behind every Branch, Jump, exit or flagged Call
+unfoldable pub starts : List Bytecode → ℕ → Bool
+starts code zero = true
+starts code (suc k) = isBranch (at code k) || has (suc k) (targets code)
+
+-- the lower of each block, by offset
+unfoldable pub lowers : List Bytecode → List ℕ
+lowers code = keep (length code) 0 (starts code)
+
+-- how many blocks
+unfoldable pub blocksOf : List Bytecode → ℕ
+blocksOf code = length (lowers code)
+
+-- the lower of the block that k stands in
+unfoldable pub lowerOf : List Bytecode → ℕ → ℕ
+lowerOf code zero = zero
+lowerOf code (suc k) = elim (starts code (suc k)) [ true ↦ suc k | false ↦ lowerOf code k ]
+
+-- the last offset before a start, from k on, d further on at most
+unfoldable pub upFrom : List Bytecode → ℕ → ℕ → ℕ
+upFrom code zero k = k
+upFrom code (suc d) k = elim (starts code (suc k)) [ true ↦ k | false ↦ upFrom code d (suc k) ]
+
+-- the upper of the block that k stands in
+unfoldable pub upperOf : List Bytecode → ℕ → ℕ
+upperOf code k = upFrom code (length code - suc k) k
+
+-- ---- keys
+
+-- the lowers in the order of their keys: blocks by offset, at each first its successors, then the block, each once
+unfoldable pub keyed : List Bytecode → List ℕ
+keyed code = firsts [] (gather (λ l. successors code (upperOf code l) ++ (l ∷ [])) (lowers code))
+
+-- the key of the block at offset o, counted from 2, where the list is `keyed code`
+unfoldable pub keyOf : List ℕ → ℕ → ℕ
+keyOf ks o = suc (suc (place o ks))
+
+-- ---- the flow table
+
+-- three places for the block that ends at u: its successors' keys in the order of the offsets, 1 last at an exit, 0 filling up
+unfoldable pub succKeys : List Bytecode → List ℕ → ℕ → List ℕ
+succKeys code ks u =
+    take 3 (map (keyOf ks) (successors code u) ++ cond (isExit (at code u)) (1 ∷ []) [] ++ replicate 3 0)
+
+-- lower, upper, key and successor keys of the block at l
+unfoldable pub row : List Bytecode → List ℕ → ℕ → List ℕ
+row code ks l = l ∷ upperOf code l ∷ keyOf ks l ∷ succKeys code ks (upperOf code l)
+
+-- six numbers for each block, by offset
+unfoldable pub flowTable : List Bytecode → List ℕ
+flowTable code = let ks = keyed code in gather (row code ks) (lowers code)
+
+-- ---- the call flow: the number of blocks and the table, where so many 16-bit numbers are lent
+
+unfoldable pub flowReply : List ℕ → ℕ → Reply
+flowReply s lent =
+    let code = codeOf s in
+    reply (checkSheet s) lent (6 * blocksOf code) (Done (blocksOf code) (flowTable code))
