@@ -110,16 +110,15 @@ pub fn instruction_at(s: &[u8], k: usize) -> Bytecode
     decode(&s[a..e])
 }
 
-// Whether all bytes are 0.
+// Whether all bytes are 0: they are gathered, with no jump for each.
 pub fn all_zero(s: &[u8]) -> bool
     ensures { λ r. ⌜ r ≡ zeros (now (s .entry)) ⌝ }
 {
+    let mut m = 0u8;
     let mut i = 0;
     while i < s.len() {
-        if s[i] != 0 {
-            return false;
-        }
+        m = m | s[i];
         i += 1;
     }
-    true
+    m == 0
 }

@@ -55,7 +55,7 @@ pub fn shape_of(kind: u8) -> Shape
     match kind {
         // Assign
         0 => row(3, 1, 1, 1, 1, false, false, false, false),
-        // Call
+        // Call: the operations 0 to 54
         1 => row(55, 0, MOST, 0, MOST, false, false, true, true),
         // Ret
         2 => row(1, 0, 0, 0, MOST, false, false, false, false),
@@ -63,14 +63,18 @@ pub fn shape_of(kind: u8) -> Shape
         3 => row(7, 1, 1, 0, 0, false, false, false, true),
         // Branch
         4 => row(1, 0, 0, 1, 1, true, true, false, false),
-        // Jump, Label
-        5..=6 => row(1, 0, 0, 0, 0, true, false, false, false),
+        // Jump
+        5 => row(1, 0, 0, 0, 0, true, false, false, false),
+        // Label
+        6 => row(1, 0, 0, 0, 0, true, false, false, false),
         // Abort
         7 => row(1, 0, 0, 1, 1, false, false, false, false),
         // Nop
         8 => row(1, 0, 0, 0, 0, false, false, false, false),
-        // SaveMem, SaveSpecVar
-        9..=10 => row(1, 0, 0, 0, 0, false, false, false, true),
+        // SaveMem
+        9 => row(1, 0, 0, 0, 0, false, false, false, true),
+        // SaveSpecVar
+        10 => row(1, 0, 0, 0, 0, false, false, false, true),
         // Prop
         11 => row(3, 0, 0, 0, MOST, false, false, false, true),
         // No kind: no sub is below 0.
@@ -78,18 +82,17 @@ pub fn shape_of(kind: u8) -> Shape
     }
 }
 
-// Whether each place from n on is 0. Every place is looked at, so that no jump depends on n.
+// Whether each place from n on is 0: they are gathered, with no jump for each.
 fn zero_from(list: [u8; LIST_PLACES], n: u8) -> bool
     ensures { λ r. ⌜ r ≡ zeros (drop n list) ⌝ }
 {
-    let from = n as usize;
-    let mut ok = true;
-    let mut i = 0;
+    let mut m = 0u8;
+    let mut i = n as usize;
     while i < LIST_PLACES {
-        ok = ok & ((i < from) | (list[i] == 0));
+        m = m | list[i];
         i += 1;
     }
-    ok
+    m == 0
 }
 
 // Whether a record keeps to a row: what it does not use is 0, and so is each list place past its count.
