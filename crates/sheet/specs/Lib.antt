@@ -8,3 +8,4 @@ pub mod LocalLaws
 pub mod Labelled
 pub mod LabelLaws
 pub mod NameLaws
+pub mod WriterLaws

@@ -4,6 +4,7 @@ use base::Refusal;
 pub mod reader; // reader.rt: numbers, lists and records out of bytes
 pub mod locals; // locals.rt: check 5
 pub mod labels; // labels.rt: checks 6 to 8
+pub mod writer; // writer.rt: numbers, lists and records into bytes
 
 // What the checks say of a sheet.
 pub enum Checked {

@@ -14,11 +14,11 @@ use base::RECORDS_FROM;
 use stackless_bytecode::Bytecode;
 
 // Where a record has its two lists and its payload.
-const DSTS_AT: usize = 12;
+pub const DSTS_AT: usize = 12;
 
-const SRCS_AT: usize = DSTS_AT + LIST_PLACES;
+pub const SRCS_AT: usize = DSTS_AT + LIST_PLACES;
 
-const PAYLOAD_AT: usize = SRCS_AT + LIST_PLACES;
+pub const PAYLOAD_AT: usize = SRCS_AT + LIST_PLACES;
 
 fn wide16(x: u8) -> u16
     ensures { λ r. ⌜ (r ≡ x) × (r < 256) ⌝ }
