@@ -4,6 +4,10 @@ pub mod Shaped
 pub mod CheckLaws
 pub mod EncodeLaws
 pub mod AcceptLaws
+pub mod AcceptedLaws
+pub mod Valid
+pub mod BlockLaws
+pub mod RecordLaws
 pub mod LocalLaws
 pub mod Labelled
 pub mod LabelLaws

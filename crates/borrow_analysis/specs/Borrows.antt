@@ -1,0 +1,87 @@
+-- In use, conditional, dying, and the replies of their calls. Assumes nothing.
+use Prim.Native.Nat.{ℕ, zero, suc, _^_}
+use mathlib.Core.Bool.{Bool, true, false, cond, _||_}
+use mathlib.Core.List.{List, [], _∷_, _++_}
+use lib.Dec.{eqb, ltb}
+use lib.ListN.{length}
+use Rattle.base.specs.Lists.{keep, over}
+use Rattle.base.specs.Refusals.{Reply, Done, reply}
+use Rattle.dataflow_domains.specs.Mask.{holds, union}
+use Rattle.borrow_analysis.specs.Graph.{Triple, Graph, Given, graphOf, checkAsked, checkGraphs}
+
+-- ---- up from a set of nodes
+
+-- m and the parents, over one triple, of the nodes in m
+unfoldable pub parentsIn : List Triple → ℕ → ℕ
+parentsIn [] m = m
+parentsIn (t ∷ ts) m = union (cond (holds m (t .child)) (2 ^ t .parent) 0) (parentsIn ts m)
+
+-- n times over
+unfoldable pub upward : ℕ → List Triple → ℕ → ℕ
+upward zero ts m = m
+upward (suc n) ts m = upward n ts (parentsIn ts m)
+
+-- the nodes that are in m, or have a descendant in m
+unfoldable pub above : Graph → ℕ → ℕ
+above g m = upward (g .count) (g .triples) m
+
+-- ---- in use, conditional
+
+-- the node or a descendant is live
+unfoldable pub isInUse : Graph → ℕ → Bool
+isInUse g n = holds (above g (g .live)) n
+
+-- how many triples lead to a node
+unfoldable pub incoming : List Triple → ℕ → ℕ
+incoming [] n = 0
+incoming (t ∷ ts) n = cond (eqb (t .child) n) (suc (incoming ts n)) (incoming ts n)
+
+-- those of the n nodes from k on that have more than one incoming triple
+unfoldable pub manyIn : ℕ → ℕ → List Triple → ℕ
+manyIn zero k ts = 0
+manyIn (suc n) k ts = union (cond (ltb 1 (incoming ts k)) (2 ^ k) 0) (manyIn n (suc k) ts)
+
+-- the node or a descendant has more than one incoming triple
+unfoldable pub isConditional : Graph → ℕ → Bool
+isConditional g n = holds (above g (manyIn (g .count) 0 (g .triples))) n
+
+-- ---- dying
+
+-- the nodes seen, as a mask and in the order of the visits
+pub record Seen : Type 0 where
+  pub mask : ℕ
+  pub listed : List ℕ
+
+-- the parents of a node, ascending, one for each triple
+unfoldable pub getParents : List Triple → ℕ → List ℕ
+getParents [] n = []
+getParents (t ∷ ts) n = cond (eqb (t .child) n) (t .parent ∷ getParents ts n) (getParents ts n)
+
+-- n and then, depth first, its parents, where not seen and not in `used`; at most d deep
+unfoldable pub collectAncestors : ℕ → List Triple → ℕ → Seen → ℕ → Seen
+collectAncestors zero ts used st n = st
+collectAncestors (suc d) ts used st n =
+    elim (holds (st .mask) n || holds used n) [
+      | true ↦ st
+      | false ↦ over (collectAncestors d ts used) (record { mask = union (2 ^ n) (st .mask); listed = st .listed ++ (n ∷ []) }) (getParents ts n)
+    ]
+
+-- the nodes that die from this graph to the next, in the order of the visits: from each node that is live here, ascending, where not in use there
+unfoldable pub dyingNodes : Graph → Graph → List ℕ
+dyingNodes here next =
+    over (collectAncestors (here .count) (here .triples) (above next (next .live))) (record { mask = 0; listed = [] })
+    (keep (here .count) 0 (holds (here .live)))
+    .listed
+
+-- ---- the calls: yes is 1, no is 0; the count of dying nodes and a byte for each, where so many bytes are lent
+
+unfoldable pub inUseReply : Given → ℕ → Reply
+inUseReply g node = reply (checkAsked g node) 0 0 (Done (cond (isInUse (graphOf g) node) 1 0) [])
+
+unfoldable pub conditionalReply : Given → ℕ → Reply
+conditionalReply g node = reply (checkAsked g node) 0 0 (Done (cond (isConditional (graphOf g) node) 1 0) [])
+
+unfoldable pub dyingReply : Given → Given → ℕ → Reply
+dyingReply here next lent =
+    let listed = dyingNodes (graphOf here) (graphOf next) in
+    reply (checkGraphs here next) lent (here .count) (Done (length listed) listed)

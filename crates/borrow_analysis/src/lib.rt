@@ -1,0 +1,1 @@
+// Borrow graphs: in use, conditional and dying nodes. Assumes nothing.

@@ -1,0 +1,105 @@
+-- `dataflow_analysis::receive_at` meets its contract: it is the definition's `receive` on the state that the slices and the cursor hold. Assumes nothing.
+use mathlib.Core.Path.{_≡_, sym, ap, _∙_}
+use mathlib.Core.Bool.{true, false}
+use borrow.Author.Needs.{needs}
+use Rattle.dataflow_domains.specs.Sets.{mask, isChanged}
+use Rattle.dataflow_analysis.specs.Queue.{newsAt}
+use Rattle.dataflow_analysis.specs.ReceiptLaws.{news-first, news-again, received-news, received-none}
+use Rattle.dataflow_analysis.proofs.receive_at.Statement.{statement}
+use Rattle.dataflow_analysis.proofs.receive_at.Tie as tie
+
+load-requires : tie.Need-load-requires
+load-requires c κs = search needs
+
+join-requires : tie.Need-join-requires
+join-requires c κs = search needs
+
+slice-read-if1 : tie.Need-slice-read-if1
+slice-read-if1 c = search needs
+
+store-requires : tie.Need-store-requires
+store-requires c κs = search needs
+
+slice-write-met : tie.Need-slice-write-met
+slice-write-met c = search needs
+
+put-requires : tie.Need-put-requires
+put-requires c κs = c .before .before .before .before .before .before .before .before .before .before .before .before .before .before .pre .2 (news-first _ _ _ _ (c .before .before .before .before .before .if1 .taken))
+
+same-length : tie.Need-same-length
+same-length c = search needs
+
+same-length-2 : tie.Need-same-length-2
+same-length-2 c = search needs
+
+same-length-3 : tie.Need-same-length-3
+same-length-3 c = search needs
+
+returns : tie.Need-returns
+returns c = let a = c .before .before .before .before .before .before .before .before .before .before .before .before .before .before .before .before .before .args in
+    let news : newsAt (a .sets .now) (a .met .now) (a .p) (mask (a .m)) ≡ true = news-first _ _ _ _ (c .before .before .before .before .before .before .before .before .if1 .taken) in
+    received-news (a .sets .now) (a .met .now) (a .q .now) (a .c) (a .p) (mask (a .m)) _ _ _ _ _ news (c .before .before .before .before .before .before .before .before .before .before .before .before .load .ensures) (c .before .before .before .before .before .before .before .before .before .before .before .join .ensures .0) (c .before .before .before .before .before .before .store .ensures) (c .before .before .before .before .before .before .before .before .before .before .before .before .before .before .before .before .before .pre .2 news) (c .before .before .put .ensures)
+
+enum-told : tie.Need-enum-told
+enum-told c = search needs
+
+enum-told-2 : tie.Need-enum-told-2
+enum-told-2 c = search needs
+
+store-requires-2 : tie.Need-store-requires-2
+store-requires-2 c κs = search needs
+
+slice-write-met-2 : tie.Need-slice-write-met-2
+slice-write-met-2 c = search needs
+
+put-requires-2 : tie.Need-put-requires-2
+put-requires-2 c κs =
+    c .before .before .before .before .before .before .before .before .before .before .before .before .before .before .before .before .pre .2 (news-again _ _ _ _ _ (c .before .before .before .before .before .before .before .before .before .before .before .load .ensures) (c .before .before .before .before .before .before .before .if1 .left) ∙ sym (c .before .before .before .before .before .before .before .before .before .before .join .ensures .1) ∙ ap isChanged (c .before .before .before .before .before .enum-told2 .given .1))
+
+same-length-4 : tie.Need-same-length-4
+same-length-4 c = search needs
+
+returns-2 : tie.Need-returns-2
+returns-2 c = let a = c .before .before .before .before .before .before .before .before .before .before .before .args in
+    let news : newsAt (a .sets .now) (a .met .now) (a .p) (mask (a .m)) ≡ false = news-again _ _ _ _ _ (c .before .before .before .before .before .before .load .ensures) (c .before .before .if1 .left) ∙ sym (c .before .before .before .before .before .join .ensures .1) ∙ ap isChanged (c .enum-told .given .1) in
+    received-none (a .sets .now) (a .met .now) (a .q .now) (a .c) (a .p) (mask (a .m)) news
+
+same-length-5 : tie.Need-same-length-5
+same-length-5 c = search needs
+
+same-length-6 : tie.Need-same-length-6
+same-length-6 c = search needs
+
+same-length-7 : tie.Need-same-length-7
+same-length-7 c = search needs
+
+returns-3 : tie.Need-returns-3
+returns-3 c = let a = c .before .before .before .before .before .before .before .before .before .before .before .before .before .before .before .before .before .before .before .args in
+    let news : newsAt (a .sets .now) (a .met .now) (a .p) (mask (a .m)) ≡ true = news-again _ _ _ _ _ (c .before .before .before .before .before .before .before .before .before .before .before .before .before .before .load .ensures) (c .before .before .before .before .before .before .before .before .before .before .if1 .left) ∙ sym (c .before .before .before .before .before .before .before .before .before .before .before .before .before .join .ensures .1) ∙ ap isChanged (c .before .before .before .before .before .before .before .before .enum-told2 .given .1) in
+    received-news (a .sets .now) (a .met .now) (a .q .now) (a .c) (a .p) (mask (a .m)) _ _ _ _ _ news (c .before .before .before .before .before .before .before .before .before .before .before .before .before .before .load .ensures) (c .before .before .before .before .before .before .before .before .before .before .before .before .before .join .ensures .0) (c .before .before .before .before .before .before .store2 .ensures) (c .before .before .before .before .before .before .before .before .before .before .before .before .before .before .before .before .before .before .before .pre .2 news) (c .before .before .put2 .ensures)
+
+pub receive-at-spec : {M : Type 1} → statement M
+receive-at-spec =
+    tie.close
+    (tie.spec
+    load-requires
+    join-requires
+    slice-read-if1
+    store-requires
+    slice-write-met
+    put-requires
+    same-length
+    same-length-2
+    same-length-3
+    returns
+    enum-told
+    enum-told-2
+    store-requires-2
+    slice-write-met-2
+    put-requires-2
+    same-length-4
+    returns-2
+    same-length-5
+    same-length-6
+    same-length-7
+    returns-3)

@@ -1,0 +1,9 @@
+pub mod Lattice
+pub mod Worklist
+pub mod Queue
+pub mod LatticeLaws
+pub mod WorklistLaws
+pub mod LeastLaws
+pub mod MaskList
+pub mod QueueLaws
+pub mod ReceiptLaws

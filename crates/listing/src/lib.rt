@@ -1,0 +1,1 @@
+// The text of livelist, as bytes. Assumes nothing.

@@ -1,0 +1,1 @@
+// Live variable analysis and the rewriting of code by it. Assumes nothing.

@@ -1,0 +1,4 @@
+pub mod Samples
+pub mod Opened
+pub mod Worked
+pub mod Readings

@@ -1,0 +1,189 @@
+-- Readings that the worked sheets do not pin down, by computation: each refusal, keys, double edges, exits with a flag, merging, graphs. Assumes nothing.
+use mathlib.Core.Path.{_≡_, refl}
+use mathlib.Core.List.{List, [], _∷_, _++_}
+use Prim.Native.Nat.{ℕ, _+_, _*_, _^_, _-_}
+use lib.ListN.{set}
+use Rattle.base.specs.Sizes.{maxBytes}
+use Rattle.base.specs.Lists.{tab, gather}
+use Rattle.base.specs.Refusals.{Accepted, Refused, No, Done}
+use Rattle.stackless_bytecode.specs.declared.Bytecode.{Bytecode}
+use Rattle.stackless_bytecode.specs.Kinds.{Stop, Destroy}
+use Rattle.sheet.specs.Layout.{sheetOf}
+use Rattle.sheet.specs.Checks.{checkSheet}
+use Rattle.stackless_control_flow_graph.specs.Blocks.{flowTable, flowReply}
+use Rattle.livevar_analysis.specs.Analysis.{analyze, liveReply}
+use Rattle.livevar_analysis.specs.Rewrite.{transformCode, rewriteReply}
+use Rattle.borrow_analysis.specs.Borrows.{inUseReply, conditionalReply, dyingReply}
+use Rattle.worked.specs.Samples.{headingOf, plain, flagged, m1, assign, call, ret, load, branch, jump, label, abort, Not, ReadRef}
+use Rattle.worked.specs.Opened.{opened}
+
+-- a sheet of this many locals without parameters or references
+unfoldable pub sheet : ℕ → List Bytecode → List ℕ
+sheet locals code = sheetOf (headingOf locals 0 0) code
+
+-- code rewritten with its own live sets: so many locals, these references
+unfoldable pub again : ℕ → ℕ → List Bytecode → List Bytecode
+again locals refs code = transformCode code (analyze code locals .info) refs
+
+-- 15 Branches whose else edge loses 64 references: 41 instructions that would become 1,031
+unfoldable pub losing : List ℕ
+losing =
+    sheetOf (headingOf 64 0 (2 ^ 64 - 1)) (gather (λ i. branch 0 (i + 1) 99 0 ∷ label 0 (i + 1) ∷ []) (tab 15 0 (λ i. i))
+    ++ gather (λ i. call 0 Destroy [] (tab 8 (8 * i) (λ x. x)) ∷ []) (tab 8 0 (λ i. i))
+    ++ (ret 0 [] ∷ label 0 99 ∷ ret 0 [] ∷ []))
+
+-- ---- refusals
+
+pub record Refusals : Type 0 where
+  pub refused-1 : checkSheet [] ≡ Refused 1 0
+  pub refused-2-check : checkSheet (set m1 2 5) ≡ Refused 2 0
+  pub refused-2-later : checkSheet (set m1 600 1) ≡ Refused 2 1
+  pub refused-3-locals : checkSheet (sheet 65 (ret 0 [] ∷ [])) ≡ Refused 3 0
+  pub refused-3-mask : checkSheet (sheetOf (headingOf 1 0 2) (ret 0 [] ∷ [])) ≡ Refused 3 0
+  pub refused-4-kind : checkSheet (sheet 1 (ret 0 [] ∷ plain 12 0 0 0 0 [] [] ∷ [])) ≡ Refused 4 1
+  pub refused-4-sub : checkSheet (sheet 1 (plain 0 3 0 0 0 (0 ∷ []) (0 ∷ []) ∷ ret 0 [] ∷ [])) ≡ Refused 4 0
+  -- each check runs over the whole sheet before the next
+  pub refused-4-first : checkSheet (sheet 1 (ret 0 (1 ∷ []) ∷ plain 0 3 0 0 0 (0 ∷ []) (0 ∷ []) ∷ ret 0 [] ∷ [])) ≡ Refused 4 1
+  pub refused-5 : checkSheet (sheet 1 (ret 0 (1 ∷ []) ∷ [])) ≡ Refused 5 0
+  pub refused-5-abort : checkSheet (sheet 1 (flagged (call 0 Not [] []) 1 1 ∷ label 0 1 ∷ ret 0 [] ∷ [])) ≡ Refused 5 0
+  pub refused-6 : checkSheet (sheet 1 (label 0 1 ∷ label 0 1 ∷ ret 0 [] ∷ [])) ≡ Refused 6 1
+  pub refused-7 : checkSheet (sheet 1 (label 0 1 ∷ jump 0 9 ∷ [])) ≡ Refused 7 1
+  pub refused-8 : checkSheet (sheet 1 (load 0 0 ∷ [])) ≡ Refused 8 0
+  -- a flagged Stop falls through
+  pub refused-8-stop : checkSheet (sheet 1 (label 0 1 ∷ flagged (call 0 Stop [] []) 1 0 ∷ [])) ≡ Refused 8 1
+  pub refused-9-flow : flowReply m1 5 ≡ No 9 0
+  pub refused-9-live : liveReply m1 15 ≡ No 9 0
+  pub refused-9-rewrite : rewriteReply m1 (maxBytes - 1) ≡ No 9 0
+  pub refused-9-dying : dyingReply (record { count = 2; live = 1; numbers = [] }) (record { count = 0; live = 0; numbers = [] }) 1 ≡ No 9 0
+  pub refused-10 : rewriteReply (sheetOf (headingOf 3 0 2) (branch 0 65535 2 0 ∷ label 1 65535 ∷ call 2 ReadRef (2 ∷ []) (1 ∷ []) ∷ ret 3 (2 ∷ []) ∷ label 4 2 ∷ ret 5 [] ∷ [])) maxBytes ≡ No 10 0
+  -- the highest attribute id of M6 that leaves room for three more, and the next
+  pub accepted-10 : rewriteReply (sheetOf (headingOf 3 0 2) (branch 0 1 2 0 ∷ label 1 1 ∷ call 2 ReadRef (2 ∷ []) (1 ∷ []) ∷ ret 3 (2 ∷ []) ∷ label 4 2 ∷ ret 65532 [] ∷ [])) maxBytes
+      ≡ Done 1024 (sheetOf (headingOf 3 0 2) (branch 0 1 3 0 ∷ label 1 1 ∷ call 2 ReadRef (2 ∷ []) (1 ∷ []) ∷ ret 3 (2 ∷ []) ∷ label 4 2 ∷ ret 65532 [] ∷ label 65533 3 ∷ call 65534 Destroy [] (1 ∷ []) ∷ jump 65535 2 ∷ []))
+  pub refused-10-attr : rewriteReply (sheetOf (headingOf 3 0 2) (branch 0 1 2 0 ∷ label 1 1 ∷ call 2 ReadRef (2 ∷ []) (1 ∷ []) ∷ ret 3 (2 ∷ []) ∷ label 4 2 ∷ ret 65533 [] ∷ [])) maxBytes ≡ No 10 0
+  pub refused-11 : rewriteReply losing maxBytes ≡ No 11 0
+  pub refused-12 : inUseReply (record { count = 3; live = 8; numbers = [] }) 0 ≡ No 12 0
+  pub refused-12-second : dyingReply (record { count = 3; live = 4; numbers = 0 ∷ 3 ∷ 0 ∷ [] }) (record { count = 3; live = 8; numbers = [] }) 3 ≡ No 12 1
+  pub refused-13-length : inUseReply (record { count = 3; live = 0; numbers = 0 ∷ 1 ∷ [] }) 0 ≡ No 13 300
+  pub refused-13-order : conditionalReply (record { count = 3; live = 0; numbers = 0 ∷ 2 ∷ 1 ∷ 0 ∷ 2 ∷ 1 ∷ [] }) 0 ≡ No 13 1
+  pub refused-13-second : dyingReply (record { count = 3; live = 4; numbers = [] }) (record { count = 3; live = 0; numbers = 0 ∷ 3 ∷ 0 ∷ [] }) 3 ≡ No 13 1000
+  pub refused-14 : inUseReply (record { count = 3; live = 0; numbers = [] }) 3 ≡ No 14 0
+
+pub refusals : Refusals
+unfolding sheet losing opened
+refusals = record {
+  refused-1 = refl;
+  refused-2-check = refl;
+  refused-2-later = refl;
+  refused-3-locals = refl;
+  refused-3-mask = refl;
+  refused-4-kind = refl;
+  refused-4-sub = refl;
+  refused-4-first = refl;
+  refused-5 = refl;
+  refused-5-abort = refl;
+  refused-6 = refl;
+  refused-7 = refl;
+  refused-8 = refl;
+  refused-8-stop = refl;
+  refused-9-flow = refl;
+  refused-9-live = refl;
+  refused-9-rewrite = refl;
+  refused-9-dying = refl;
+  refused-10 = refl;
+  accepted-10 = refl;
+  refused-10-attr = refl;
+  refused-11 = refl;
+  refused-12 = refl;
+  refused-12-second = refl;
+  refused-13-length = refl;
+  refused-13-order = refl;
+  refused-13-second = refl;
+  refused-14 = refl;
+}
+
+-- ---- flow, live and graphs
+
+pub record Readings : Type 0 where
+  -- a block takes its key after its successors
+  pub successors-first : flowTable (jump 0 1 ∷ label 0 1 ∷ ret 0 [] ∷ []) ≡ 0 ∷ 0 ∷ 3 ∷ 2 ∷ 0 ∷ 0 ∷ 1 ∷ 2 ∷ 2 ∷ 1 ∷ 0 ∷ 0 ∷ []
+  -- successor keys stand in the order of the offsets: 4 before 2
+  pub by-offset : flowTable (jump 0 2 ∷ label 0 1 ∷ branch 0 1 2 0 ∷ label 0 2 ∷ ret 0 [] ∷ []) ≡ 0 ∷ 0 ∷ 3 ∷ 2 ∷ 0 ∷ 0 ∷ 1 ∷ 2 ∷ 4 ∷ 4 ∷ 2 ∷ 0 ∷ 3 ∷ 4 ∷ 2 ∷ 1 ∷ 0 ∷ 0 ∷ []
+  -- a double edge stands twice
+  pub double-edge : flowTable (branch 0 1 1 0 ∷ label 0 1 ∷ ret 0 [] ∷ []) ≡ 0 ∷ 0 ∷ 3 ∷ 2 ∷ 2 ∷ 0 ∷ 1 ∷ 2 ∷ 2 ∷ 1 ∷ 0 ∷ 0 ∷ []
+  pub double-edge-taken : analyze (branch 0 1 1 0 ∷ label 0 1 ∷ ret 0 [] ∷ []) 1 .taken ≡ 4
+  -- a Label that nobody names starts no block
+  pub unnamed-label : flowTable (label 0 5 ∷ ret 0 [] ∷ []) ≡ 0 ∷ 1 ∷ 2 ∷ 1 ∷ 0 ∷ 0 ∷ []
+  -- a Label is named by code that no path reaches, too
+  pub named-unreached : flowTable (plain 8 0 0 0 0 [] [] ∷ label 0 1 ∷ ret 0 [] ∷ jump 0 1 ∷ []) ≡ 0 ∷ 0 ∷ 3 ∷ 2 ∷ 0 ∷ 0 ∷ 1 ∷ 2 ∷ 2 ∷ 1 ∷ 0 ∷ 0 ∷ 3 ∷ 3 ∷ 4 ∷ 2 ∷ 0 ∷ 0 ∷ []
+  -- a flagged Stop has three keys: its label's, the next block's, and 1
+  pub flagged-stop : flowTable (flagged (call 0 Stop [] []) 1 0 ∷ ret 0 [] ∷ label 0 1 ∷ ret 0 [] ∷ [])
+      ≡ 0 ∷ 0 ∷ 4 ∷ 2 ∷ 3 ∷ 1 ∷ 1 ∷ 1 ∷ 2 ∷ 1 ∷ 0 ∷ 0 ∷ 2 ∷ 3 ∷ 3 ∷ 1 ∷ 0 ∷ 0 ∷ []
+  -- the set's bytes: before, then after
+  pub live-bytes : liveReply m1 16 ≡ Done 3 (1 ∷ 0 ∷ 0 ∷ 0 ∷ 0 ∷ 0 ∷ 0 ∷ 0 ∷ 0 ∷ 0 ∷ 0 ∷ 0 ∷ 0 ∷ 0 ∷ 0 ∷ 0 ∷ [])
+  -- two triples from one parent make a node conditional, and its ancestors
+  pub two-triples-one-parent : conditionalReply (record { count = 3; live = 0; numbers = 0 ∷ 2 ∷ 0 ∷ 0 ∷ 2 ∷ 1 ∷ [] }) 0 ≡ Done 1 []
+  pub one-triple : conditionalReply (record { count = 3; live = 0; numbers = 0 ∷ 2 ∷ 0 ∷ [] }) 0 ≡ Done 0 []
+  -- in use on a cycle
+  pub in-use-on-a-cycle : inUseReply (record { count = 2; live = 2; numbers = 0 ∷ 1 ∷ 0 ∷ 1 ∷ 0 ∷ 0 ∷ [] }) 0 ≡ Done 1 []
+  pub unused-on-a-cycle : inUseReply (record { count = 3; live = 4; numbers = 0 ∷ 1 ∷ 0 ∷ 1 ∷ 0 ∷ 0 ∷ [] }) 0 ≡ Done 0 []
+  -- the listing of dying nodes is not always child first
+  pub not-child-first : dyingReply (record { count = 3; live = 6; numbers = 0 ∷ 1 ∷ 0 ∷ 0 ∷ 2 ∷ 0 ∷ [] }) (record { count = 0; live = 0; numbers = [] }) 3 ≡ Done 3 (1 ∷ 0 ∷ 2 ∷ [])
+
+pub readings : Readings
+unfolding opened
+readings = record {
+  successors-first = refl;
+  by-offset = refl;
+  double-edge = refl;
+  double-edge-taken = refl;
+  unnamed-label = refl;
+  named-unreached = refl;
+  flagged-stop = refl;
+  live-bytes = refl;
+  two-triples-one-parent = refl;
+  one-triple = refl;
+  in-use-on-a-cycle = refl;
+  unused-on-a-cycle = refl;
+  not-child-first = refl;
+}
+
+-- ---- rewriting
+
+pub record Rewritings : Type 0 where
+  -- a Call takes the destination of a dead Assign too
+  pub dead-assign : again 2 0 (call 0 Not (0 ∷ []) [] ∷ assign 0 1 0 ∷ ret 0 [] ∷ []) ≡ call 0 Not (1 ∷ []) [] ∷ ret 0 [] ∷ []
+  -- a Load that is dropped between the two keeps them apart, and a second rewriting merges them
+  pub apart : again 3 0 (call 0 Not (0 ∷ []) [] ∷ load 0 2 ∷ assign 0 1 0 ∷ ret 0 (1 ∷ []) ∷ []) ≡ call 0 Not (0 ∷ []) [] ∷ assign 0 1 0 ∷ ret 0 (1 ∷ []) ∷ []
+  pub second : again 3 0 (call 0 Not (0 ∷ []) [] ∷ assign 0 1 0 ∷ ret 0 (1 ∷ []) ∷ []) ≡ call 0 Not (1 ∷ []) [] ∷ ret 0 (1 ∷ []) ∷ []
+  -- only one Assign a Call
+  pub one-assign : again 3 0 (call 0 Not (0 ∷ []) [] ∷ assign 0 1 0 ∷ assign 0 2 1 ∷ ret 0 (2 ∷ []) ∷ []) ≡ call 0 Not (1 ∷ []) [] ∷ assign 0 2 1 ∷ ret 0 (2 ∷ []) ∷ []
+  -- a destination listed twice is two destinations
+  pub two-destinations : again 2 0 (call 0 Not (0 ∷ 0 ∷ []) [] ∷ assign 0 1 0 ∷ ret 0 (1 ∷ []) ∷ []) ≡ call 0 Not (0 ∷ 0 ∷ []) [] ∷ assign 0 1 0 ∷ ret 0 (1 ∷ []) ∷ []
+  -- a destination that is used behind the Assign stays
+  pub used-again : again 2 0 (call 0 Not (0 ∷ []) [] ∷ assign 0 1 0 ∷ ret 0 (0 ∷ 1 ∷ []) ∷ []) ≡ call 0 Not (0 ∷ []) [] ∷ assign 0 1 0 ∷ ret 0 (0 ∷ 1 ∷ []) ∷ []
+  -- a Stop, and a flagged Call, merge as any Call
+  pub stop : again 2 0 (call 0 Stop (0 ∷ []) [] ∷ assign 0 1 0 ∷ ret 0 (1 ∷ []) ∷ []) ≡ call 0 Stop (1 ∷ []) [] ∷ ret 0 (1 ∷ []) ∷ []
+  pub flag : again 3 0 (flagged (call 0 Not (0 ∷ []) []) 1 2 ∷ assign 0 1 0 ∷ ret 0 (1 ∷ []) ∷ label 0 1 ∷ ret 0 [] ∷ []) ≡ flagged (call 0 Not (1 ∷ []) []) 1 2 ∷ ret 0 (1 ∷ []) ∷ label 0 1 ∷ ret 0 [] ∷ []
+  -- both edges lose: the then block comes first; an unnamed Label and dropped attributes count for the numbers
+  pub both-edges : again 4 6 (branch 0 1 2 0 ∷ label 0 1 ∷ call 0 ReadRef (3 ∷ []) (1 ∷ []) ∷ ret 0 (3 ∷ []) ∷ label 0 2 ∷ call 0 ReadRef (3 ∷ []) (2 ∷ []) ∷ label 0 7 ∷ load 9 0 ∷ ret 0 (3 ∷ []) ∷ [])
+      ≡ branch 0 8 9 0 ∷ label 0 1 ∷ call 0 ReadRef (3 ∷ []) (1 ∷ []) ∷ ret 0 (3 ∷ []) ∷ label 0 2 ∷ call 0 ReadRef (3 ∷ []) (2 ∷ []) ∷ label 0 7 ∷ ret 0 (3 ∷ [])
+      ∷ label 10 8 ∷ call 11 Destroy [] (2 ∷ []) ∷ jump 12 1 ∷ label 13 9 ∷ call 14 Destroy [] (1 ∷ []) ∷ jump 15 2 ∷ []
+  -- each Branch has blocks of its own
+  pub two-branches : again 2 2 (branch 0 1 2 0 ∷ label 0 1 ∷ branch 0 3 2 0 ∷ label 0 3 ∷ call 0 ReadRef (0 ∷ []) (1 ∷ []) ∷ ret 0 (0 ∷ []) ∷ label 0 2 ∷ ret 0 [] ∷ [])
+      ≡ branch 0 1 4 0 ∷ label 0 1 ∷ branch 0 3 5 0 ∷ label 0 3 ∷ call 0 ReadRef (0 ∷ []) (1 ∷ []) ∷ ret 0 (0 ∷ []) ∷ label 0 2 ∷ ret 0 []
+      ∷ label 1 4 ∷ call 2 Destroy [] (1 ∷ []) ∷ jump 3 2 ∷ label 4 5 ∷ call 5 Destroy [] (1 ∷ []) ∷ jump 6 2 ∷ []
+
+pub rewritings : Rewritings
+unfolding again opened
+rewritings = record {
+  dead-assign = refl;
+  apart = refl;
+  second = refl;
+  one-assign = refl;
+  two-destinations = refl;
+  used-again = refl;
+  stop = refl;
+  flag = refl;
+  both-edges = refl;
+  two-branches = refl;
+}

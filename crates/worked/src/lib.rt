@@ -1,0 +1,1 @@
+// The paper's worked sheets: specs/ has them, and the theorems on them. Assumes nothing.
