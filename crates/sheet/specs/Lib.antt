@@ -13,3 +13,4 @@ pub mod Labelled
 pub mod LabelLaws
 pub mod NameLaws
 pub mod WriterLaws
+pub mod FormLaws
