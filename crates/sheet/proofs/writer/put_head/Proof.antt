@@ -1,6 +1,7 @@
 -- `sheet::writer::put_head` meets its contract: twelve stores fill twelve bytes. Assumes nothing.
 use lib.ListN.{length-set}
-use Rattle.sheet.specs.WriterLaws.{headOf, fill}
+use Rattle.base.specs.WriteLaws.{fill}
+use Rattle.sheet.specs.WriterLaws.{headOf}
 use native.Mathlib.Omega.{arith}
 use borrow.Author.Needs.{needs}
 use Rattle.sheet.proofs.writer.put_head.Statement.{statement}

@@ -1,6 +1,6 @@
 -- `sheet::writer::put_u16` meets its contract: the stores fill two bytes. Assumes nothing.
 use Rattle.base.specs.Bytes.{bytesOf}
-use Rattle.sheet.specs.WriterLaws.{fill}
+use Rattle.base.specs.WriteLaws.{fill}
 use borrow.Author.Needs.{needs}
 use Rattle.sheet.proofs.writer.put_u16.Statement.{statement}
 use Rattle.sheet.proofs.writer.put_u16.Tie as tie

@@ -1,6 +1,6 @@
 -- `sheet::writer::put_u32` meets its contract: the stores fill four bytes. Assumes nothing.
 use Rattle.base.specs.Bytes.{bytesOf}
-use Rattle.sheet.specs.WriterLaws.{fill}
+use Rattle.base.specs.WriteLaws.{fill}
 use borrow.Author.Needs.{needs}
 use Rattle.sheet.proofs.writer.put_u32.Statement.{statement}
 use Rattle.sheet.proofs.writer.put_u32.Tie as tie
