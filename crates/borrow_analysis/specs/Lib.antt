@@ -1,3 +1,6 @@
 pub mod Graph
 pub mod Borrows
 pub mod BorrowLaws
+pub mod Answers
+pub mod GraphLaws
+pub mod Inside

@@ -1,0 +1,25 @@
+use native.Mathlib.Omega.{arith}
+use borrow.Author.Needs.{needs}
+use Rattle.borrow_analysis.proofs.upward.parent_at.Statement.{statement}
+use Rattle.borrow_analysis.proofs.upward.parent_at.Tie as tie
+use Rattle.borrow_analysis.proofs.upward.parent_at.Reads as reads
+use Rattle.borrow_analysis.proofs.upward.parent_at.Lts as lts
+
+mul-at : tie.Need-mul-at
+mul-at c = search needs
+
+mul-result : tie.Need-mul-result
+mul-result c = search needs
+
+shared-slice-read-result : tie.Need-shared-slice-read-result
+shared-slice-read-result c = search needs
+
+cast-result : tie.Need-cast-result
+cast-result c = search needs
+
+returns : tie.Need-returns
+returns c = search needs
+
+pub parent-at-spec : {M : Type 1} → statement M
+parent-at-spec =
+    tie.close (tie.spec mul-at mul-result shared-slice-read-result cast-result returns)
