@@ -4,3 +4,4 @@ pub mod BorrowLaws
 pub mod Answers
 pub mod GraphLaws
 pub mod Inside
+pub mod UpwardLaws

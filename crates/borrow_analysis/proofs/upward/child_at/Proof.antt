@@ -1,3 +1,4 @@
+-- `borrow_analysis::upward::child_at` meets its contract. Assumes nothing.
 use native.Mathlib.Omega.{arith}
 use borrow.Author.Needs.{needs}
 use Rattle.borrow_analysis.proofs.upward.child_at.Statement.{statement}
@@ -18,10 +19,10 @@ shared-slice-read-result : tie.Need-shared-slice-read-result
 shared-slice-read-result c = search needs
 
 cast-result : tie.Need-cast-result
-cast-result c = search needs
+cast-result c = omega (arith, c .before .pre .0 .children (c .before .args .i) (c .before .pre .1))
 
 returns : tie.Need-returns
-returns c = search needs
+returns c = (search needs, c .before .pre .0 .children (c .before .args .i) (c .before .pre .1))
 
 pub child-at-spec : {M : Type 1} → statement M
 child-at-spec =
