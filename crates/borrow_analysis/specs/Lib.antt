@@ -5,3 +5,4 @@ pub mod Answers
 pub mod GraphLaws
 pub mod Inside
 pub mod UpwardLaws
+pub mod AcceptedLaws
