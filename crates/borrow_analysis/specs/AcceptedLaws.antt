@@ -16,7 +16,7 @@ use Rattle.base.specs.Refusals.{Answer, Accepted, Refused, refuse, whole, Resul
 use Rattle.dataflow_domains.specs.Mask.{holds}
 use Rattle.borrow_analysis.specs.Graph.{Triple, Graph, Given, tripleAt, triplesOf, graphOf, rank, nodesOk, tripleOk, triplesBad, moved, checkAsked, checkGraphs}
 use Rattle.borrow_analysis.specs.Borrows.{above, upward, manyIn, isInUse, isConditional, inUseReply, conditionalReply}
-use Rattle.borrow_analysis.specs.Inside.{Inside, Many}
+use Rattle.borrow_analysis.specs.Parts.{Inside, Many}
 use Rattle.borrow_analysis.specs.UpwardLaws.{many-is, incoming-out}
 
 -- ---- an accepted call passed each check

@@ -3,6 +3,8 @@ pub mod Borrows
 pub mod BorrowLaws
 pub mod Answers
 pub mod GraphLaws
-pub mod Inside
+pub mod Parts
 pub mod UpwardLaws
 pub mod AcceptedLaws
+pub mod AncestorLaws
+pub mod VisitLaws

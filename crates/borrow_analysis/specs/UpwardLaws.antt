@@ -18,7 +18,7 @@ use Rattle.dataflow_domains.specs.MaskLaws.{ext, bit-union, bit-empty, bit-self
 use Rattle.borrow_analysis.specs.Graph.{Triple}
 use Rattle.borrow_analysis.specs.Borrows.{parentsIn, upward, incoming, manyIn}
 use Rattle.borrow_analysis.specs.BorrowLaws.{parents-has}
-use Rattle.borrow_analysis.specs.Inside.{Many}
+use Rattle.borrow_analysis.specs.Parts.{Many}
 
 -- ---- `tab`
 

@@ -13,6 +13,7 @@ use crate::upward::many_in;
 
 pub mod answers; // answers.rt: what the calls answer
 pub mod graph; // graph.rt: the live nodes as a set, and checks 12 to 14
+pub mod ancestors; // ancestors.rt: the visits of dying nodes
 pub mod upward; // upward.rt: up from a set of nodes
 
 // Whether a node or a descendant of it is live.

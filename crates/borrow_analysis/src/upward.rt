@@ -6,7 +6,7 @@ ghost use Rattle.base.specs.Sizes.{maxLocals};
 ghost use Rattle.dataflow_domains.specs.Sets.{mask};
 ghost use Rattle.borrow_analysis.specs.Graph.{triplesOf};
 ghost use Rattle.borrow_analysis.specs.Borrows.{parentsIn, upward};
-ghost use Rattle.borrow_analysis.specs.Inside.{Inside, Many};
+ghost use Rattle.borrow_analysis.specs.Parts.{Inside, Many};
 use dataflow_domains::LiveVarState;
 
 // The parent of triple i.
