@@ -1,22 +1,23 @@
 -- What an accepted graph is like, and what the calls answer of it. Assumes nothing.
 use mathlib.Core.Path.{_≡_, refl, sym, ap, ap₂, _∙_, subst}
 use mathlib.Core.Bool.{Bool, true, false, cond, _||_, _&&_}
-use mathlib.Core.List.{List, [], _∷_, List·Memᴰ}
+use mathlib.Core.List.{List, [], _∷_, _++_, List·Memᴰ}
 use mathlib.Core.Option.{Option, none, some}
 use Prim.Native.Nat.{ℕ, zero, suc, _+_, _*_, _/_, _%_, _^_, _≤_, _<_}
 use native.Mathlib.Omega.{arith}
-use borrow.Author.Tests.{leb-true, ltb-true}
+use borrow.Author.Tests.{leb-true, ltb-true, lt-ltb, le-ltb}
 use lib.Dec.{eqb, leb, ltb}
-use lib.ListN.{getD, length}
+use lib.ListN.{getD, length, drop}
 use Rattle.base.specs.Sizes.{maxLocals, maxTriples}
-use Rattle.base.specs.Lists.{firstBad, tab}
+use Rattle.base.specs.Lists.{firstBad, tab, over}
 use Rattle.base.specs.ListLaws.{and-true, in-getD, getD-tab, length-tab}
 use Rattle.base.specs.SearchLaws.{none-all}
-use Rattle.base.specs.Refusals.{Answer, Accepted, Refused, refuse, whole, Result, Done, reply, resultOf}
+use Rattle.base.specs.Refusals.{Answer, Accepted, Refused, refuse, whole, Result, Done, reply, resultOf, left}
 use Rattle.dataflow_domains.specs.Mask.{holds}
+use Rattle.dataflow_domains.specs.Members.{members}
 use Rattle.borrow_analysis.specs.Graph.{Triple, Graph, Given, tripleAt, triplesOf, graphOf, rank, nodesOk, tripleOk, triplesBad, moved, checkAsked, checkGraphs}
-use Rattle.borrow_analysis.specs.Borrows.{above, upward, manyIn, isInUse, isConditional, inUseReply, conditionalReply}
-use Rattle.borrow_analysis.specs.Parts.{Inside, Many}
+use Rattle.borrow_analysis.specs.Borrows.{above, upward, manyIn, isInUse, isConditional, collectAncestors, dyingNodes, inUseReply, conditionalReply, dyingReply}
+use Rattle.borrow_analysis.specs.Parts.{Inside, Many, Came}
 use Rattle.borrow_analysis.specs.UpwardLaws.{many-is, incoming-out}
 
 -- ---- an accepted call passed each check
@@ -114,3 +115,31 @@ module _ (g : Given) (node : ℕ) where
       let is : n ≡ manyIn (g .count) 0 (triplesOf (g .numbers)) =
         many-is (g .count) n (triplesOf (g .numbers)) w (λ j l. incoming-out (length (g .numbers) / 3) 0 (g .count) (tripleAt (g .numbers)) j (λ k q. accepted-asked g node (sym a) .0 .inside .children k (omega arith)) l) in
       rw (← a, ← is, ← e, h)
+
+-- ---- dying: the number and the value, and what was lent
+
+module _ (here next : Given) (lent : List ℕ) where
+  pub dying-refused : (num place : ℕ) → Refused num place ≡ checkGraphs here next
+      → (_≡_ {A = Result} (record { number = num; value = place }) (resultOf (dyingReply here next (length lent)))) × (lent ≡ left (dyingReply here next (length lent)) lent)
+  unfolding dyingReply reply resultOf left
+  dying-refused num place e = (rw (← e), rw (← e))
+
+  pub dying-short : Accepted ≡ checkGraphs here next → length lent < here .count
+      → (_≡_ {A = Result} (record { number = 9; value = 0 }) (resultOf (dyingReply here next (length lent)))) × (lent ≡ left (dyingReply here next (length lent)) lent)
+  unfolding dyingReply reply resultOf left
+  dying-short e h = (rw (← e, lt-ltb (length lent) (here .count) h), rw (← e, lt-ltb (length lent) (here .count) h))
+
+  dying-same : {used from : ℕ} → used ≡ upward (next .count) (triplesOf (next .numbers)) (next .live) → from ≡ here .live
+      → over (collectAncestors (here .count) (triplesOf (here .numbers)) used) (record { mask = 0; listed = [] }) (members (here .count) from) .listed ≡ dyingNodes (graphOf here) (graphOf next)
+  unfolding dyingNodes above graphOf
+  dying-same u f =
+      ap₂ (λ (x y : ℕ). over (collectAncestors (here .count) (triplesOf (here .numbers)) x) (record { mask = 0; listed = [] }) (members (here .count) y) .listed) u f
+
+  pub dying-done : {used from m k : ℕ} {new : List ℕ} → Accepted ≡ checkGraphs here next → here .count ≤ length lent → used ≡ upward (next .count) (triplesOf (next .numbers)) (next .live) → from ≡ here .live
+      → Came (over (collectAncestors (here .count) (triplesOf (here .numbers)) used) (record { mask = 0; listed = [] }) (members (here .count) from)) m k lent new
+      → (_≡_ {A = Result} (record { number = 0; value = k }) (resultOf (dyingReply here next (length lent)))) × (new ≡ left (dyingReply here next (length lent)) lent)
+  unfolding dyingReply reply resultOf left
+  dying-done e h u f v =
+      let same = dying-same u f in
+      (rw (← e, le-ltb (length lent) (here .count) h) (ap (λ (n : ℕ). record { number = 0; value = n }) (v .count ∙ ap length same)),
+       rw (← e, le-ltb (length lent) (here .count) h) (v .wrote ∙ ap (λ (l : List ℕ). l ++ drop (length l) lent) same))

@@ -1,10 +1,13 @@
 // The visits of dying nodes: a node, then its parents, depth first. Assumes nothing.
 ghost use mathlib.Core.Path.{_≡_};
 ghost use mathlib.Core.Bool.{_||_};
-ghost use Prim.Native.Nat.{_+_, _^_, _<_};
+ghost use mathlib.Core.List.{[]};
+ghost use Prim.Native.Nat.{_+_, _^_, _<_, _≤_};
 ghost use lib.ListN.{length, set};
 ghost use Rattle.base.specs.Sizes.{maxLocals};
+ghost use Rattle.base.specs.Lists.{over};
 ghost use Rattle.dataflow_domains.specs.Mask.{holds, union};
+ghost use Rattle.dataflow_domains.specs.Members.{members};
 ghost use Rattle.dataflow_domains.specs.Sets.{mask};
 ghost use Rattle.borrow_analysis.specs.Graph.{triplesOf};
 ghost use Rattle.borrow_analysis.specs.Borrows.{collectAncestors};
@@ -72,4 +75,28 @@ pub fn collect_ancestors(
         i += 1;
     }
     done
+}
+
+// The visits from each node of a set, ascending.
+pub fn collect_from(
+    triples: &[u32],
+    used: LiveVarState,
+    from: LiveVarState,
+    depth: usize,
+    out: &mut [u8],
+) -> Visited
+    requires { ⌜ Inside depth (now triples) × (depth ≤ maxLocals) × (depth ≤ length (now out)) × (mask from < 2 ^ depth) ⌝ }
+    ensures { λ r. ⌜ Came (over (collectAncestors depth (triplesOf (now (triples .entry))) (mask used)) (record { mask = 0; listed = [] }) (members depth (mask from))) (mask (r .nodes)) (r .count) (now (out .entry)) (now (out .exit)) × (r .count ≤ depth) ⌝ }
+{
+    let mut seen = Visited {
+        nodes: LiveVarState::empty(),
+        count: 0,
+    };
+    let mut left = from;
+    while !left.is_empty() {
+        let next = left.take_lowest();
+        seen = collect_ancestors(triples, used, seen, next.local, depth, out);
+        left = next.rest;
+    }
+    seen
 }
