@@ -1,1 +1,2 @@
 // Live variable analysis and the rewriting of code by it. Assumes nothing.
+pub mod rules; // rules.rt: each instruction's rule, decoded once
