@@ -11,3 +11,4 @@ pub mod Walk
 pub mod Rules
 pub mod DecodeLaws
 pub mod InputLaws
+pub mod EngineLaws
