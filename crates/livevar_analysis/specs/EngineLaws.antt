@@ -1,21 +1,32 @@
 -- What the engine's loops are to the definitions: the rules of a block. Assumes nothing.
-use mathlib.Core.Path.{_≡_, refl, sym, ap, ap₂, _∙_}
+use mathlib.Core.Path.{_≡_, refl, sym, ap, ap₂, _∙_, subst}
 use mathlib.Core.Logic.{_⊎_, inl, inr}
 use mathlib.Core.Bool.{Bool, true, false, cond, _&&_}
 use mathlib.Core.List.{List, [], _∷_, _++_}
-use Prim.Native.Nat.{ℕ, suc, _+_, _-_, _≤_, _<_}
+use Prim.Native.Nat.{ℕ, suc, _+_, _-_, _*_, _≤_, _<_}
+use native.Mathlib.Numerals.{add-one}
 use native.Mathlib.Omega.{arith}
 use borrow.Author.Tests.{ne-eqb}
 use lib.Dec.{eqb}
 use lib.ListN.{getD, length, take, drop, length-drop}
-use lib.Seq.{take-suc, getD-drop}
+use lib.Seq.{take-suc, take-all, getD-drop}
+use Rattle.base.specs.Sizes.{setWords}
+use Rattle.base.specs.Lists.{over}
+use Rattle.base.specs.ListLaws.{over-append}
 use Rattle.dataflow_domains.specs.Mask.{union, minus}
-use Rattle.dataflow_domains.specs.Sets.{setAt}
+use Rattle.dataflow_domains.specs.Sets.{setAt, setsOf}
+use Rattle.dataflow_analysis.specs.declared.Cursor.{Cursor}
+use Rattle.dataflow_analysis.specs.Worklist.{State, news, receive}
+use Rattle.dataflow_analysis.specs.MaskList.{masks}
+use Rattle.dataflow_analysis.specs.Queue.{listOf, stateOf, newsAt, Received}
+use Rattle.dataflow_analysis.specs.QueueLaws.{list-length}
+use Rattle.dataflow_analysis.specs.ReceiptLaws.{news-at}
 use Rattle.stackless_bytecode.specs.declared.Bytecode.{Bytecode}
 use Rattle.stackless_bytecode.specs.Kinds.{at, nop}
 use Rattle.livevar_analysis.specs.Live.{execute}
 use Rattle.livevar_analysis.specs.Analysis.{executeAll}
 use Rattle.livevar_analysis.specs.Rules.{applied, ruleAt}
+use Rattle.livevar_analysis.specs.Engine.{stateAt, CanHand, HandedOn}
 
 -- ---- one rule
 
@@ -59,3 +70,70 @@ execute-more code lower k m l h =
 pub execute-none : (code : List Bytecode) (lower k m : ℕ) → k ≤ lower → executeAll (take (k - lower) (drop lower code)) m ≡ m
 unfolding executeAll
 execute-none code lower k m h = let none : k - lower ≡ 0 = omega arith in ap (λ (n : ℕ). executeAll (take n (drop lower code)) m) none
+
+-- ---- handing on: the loop's invariant, after i of the nodes ps have received m
+
+pub record Handing (n : ℕ) (sets₀ met₀ q₀ : List ℕ) (c₀ : Cursor) (ps : List ℕ) (m : ℕ) (sets met q : List ℕ) (c : Cursor) (i : ℕ) : Type 0 where
+  pub state : stateAt n sets met q c ≡ over (receive m) (stateAt n sets₀ met₀ q₀ c₀) (take i ps)
+  pub same-head : c .head ≡ c₀ .head
+  pub list-fits : c .head + c .len ≤ length q₀
+  pub within : i ≤ length ps
+  pub sets-kept : length sets ≡ length sets₀
+  pub met-kept : length met ≡ length met₀
+  pub q-kept : length q ≡ length q₀
+
+at-taken : (n : ℕ) (sets met q : List ℕ) (c : Cursor) → stateAt n sets met q c .taken ≡ c .head
+unfolding stateOf
+at-taken n sets met q c = refl
+
+at-list : (n : ℕ) (sets met q : List ℕ) (c : Cursor) → stateAt n sets met q c .list ≡ listOf q c
+unfolding stateOf
+at-list n sets met q c = refl
+
+over-more : {A B : Type 0} (f : B → A → B) (b : B) (xs : List A) (i : ℕ) (d : A) → i < length xs → over f b (take (i + 1) xs) ≡ f (over f b (take i xs)) (getD xs i d)
+unfolding over
+over-more f b xs i d h =
+    ap (λ (n : ℕ). over f b (take n xs)) (add-one i) ∙ ap (over f b) (take-suc xs i d h) ∙ over-append f b (take i xs) (getD xs i d ∷ [])
+
+module _ (n : ℕ) (sets₀ met₀ q₀ : List ℕ) (c₀ : Cursor) (ps : List ℕ) (m : ℕ) (can : CanHand n sets₀ met₀ q₀ c₀ ps m) where
+  pub hand-none : Handing n sets₀ met₀ q₀ c₀ ps m sets₀ met₀ q₀ c₀ 0
+  unfolding over
+  hand-none = record { state = refl; same-head = refl; list-fits = can .list-fits; within = omega arith; sets-kept = refl; met-kept = refl; q-kept = refl }
+
+  module _ (sets met q : List ℕ) (c : Cursor) (i : ℕ) (h : Handing n sets₀ met₀ q₀ c₀ ps m sets met q c i) (more : i < length ps) where
+    -- what `receive_at` requires
+    pub hand-asks : (p : ℕ) → p ≡ getD ps i 0 → (setWords * p + setWords ≤ length sets) × (p < length met) × (newsAt sets met p m ≡ true → c .head + c .len < length q)
+    hand-asks p e =
+        let inside : p < n = omega (arith, can .below i more) in
+        (omega (arith, can .sets-fit, h .sets-kept), omega (arith, can .met-fit, h .met-kept), place inside)
+      where
+        place : p < n → newsAt sets met p m ≡ true → c .head + c .len < length q
+        place inside t =
+            let size : length (listOf q c) ≡ c .len = list-length q c (omega (arith, h .list-fits, h .q-kept)) in
+            let room : stateAt n sets met q c .taken + length (stateAt n sets met q c .list) < length q₀ =
+            subst (λ (s : State masks). news m s (getD ps i 0) ≡ true → s .taken + length (s .list) < length q₀) (sym (h .state)) (can .room i more)
+            (ap (news m (stateAt n sets met q c)) (sym e) ∙ news-at sets met q c p m n (c .head) inside ∙ t) in
+            omega (arith, size, room, h .q-kept, at-taken n sets met q c, ap length (at-list n sets met q c))
+
+    -- one node more has received
+    pub hand-more : (p : ℕ) → p ≡ getD ps i 0 → (sets₁ met₁ q₁ : List ℕ) (r : Cursor) → Received sets met q c p m sets₁ met₁ q₁ r
+        → length sets₁ ≡ length sets → length met₁ ≡ length met → length q₁ ≡ length q → Handing n sets₀ met₀ q₀ c₀ ps m sets₁ met₁ q₁ r (i + 1)
+    hand-more p e sets₁ met₁ q₁ r got ls lm lq =
+        let inside : p < n = omega (arith, can .below i more) in
+        record {
+          state = ap (stateOf (setsOf n sets₁) met₁ q₁ r) (got .same-head) ∙ got .state n (c .head) inside (omega (arith, can .sets-fit, h .sets-kept)) ∙ ap₂ (receive m) (h .state) e ∙ sym (over-more (receive m) (stateAt n sets₀ met₀ q₀ c₀) ps i 0 more);
+          same-head = got .same-head ∙ h .same-head;
+          list-fits = omega (arith, got .fits (omega (arith, h .list-fits, h .q-kept)), h .q-kept);
+          within = omega arith;
+          sets-kept = ls ∙ h .sets-kept;
+          met-kept = lm ∙ h .met-kept;
+          q-kept = lq ∙ h .q-kept;
+        }
+
+  -- all have
+  pub hand-all : (sets met q : List ℕ) (c : Cursor) (i : ℕ) → Handing n sets₀ met₀ q₀ c₀ ps m sets met q c i → length ps ≤ i → HandedOn n sets₀ met₀ q₀ c₀ ps m sets met q c
+  hand-all sets met q c i h end = record {
+    state = h .state ∙ ap (over (receive m) (stateAt n sets₀ met₀ q₀ c₀)) (take-all i ps end);
+    same-head = h .same-head;
+    list-fits = h .list-fits;
+  }

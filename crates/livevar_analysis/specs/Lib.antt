@@ -9,6 +9,7 @@ pub mod RewriteLaws
 pub mod RewriteAccepted
 pub mod Walk
 pub mod Rules
+pub mod Engine
 pub mod DecodeLaws
 pub mod InputLaws
 pub mod EngineLaws

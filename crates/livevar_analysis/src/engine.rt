@@ -1,12 +1,16 @@
 // The engine of live: the rules of a block from its end to its start, and the first-in work list over the backward graph, in lent slices. Assumes nothing.
 ghost use mathlib.Core.Path.{_≡_};
 ghost use mathlib.Core.List.{List};
-ghost use Prim.Native.Nat.{suc, _+_, _-_, _<_};
+ghost use Prim.Native.Nat.{suc, _+_, _-_, _<_, _≤_};
 ghost use lib.ListN.{length, take, drop};
+ghost use Rattle.base.specs.Lists.{tab};
 ghost use Rattle.dataflow_domains.specs.Sets.{mask};
 ghost use Rattle.stackless_bytecode.specs.declared.Bytecode.{Bytecode};
 ghost use Rattle.livevar_analysis.specs.Analysis.{executeAll};
 ghost use Rattle.livevar_analysis.specs.Rules.{ruleAt, Ruled, RuleRoom};
+ghost use Rattle.livevar_analysis.specs.Engine.{CanHand, HandedOn};
+use dataflow_analysis::Cursor;
+use dataflow_analysis::receive_at;
 use dataflow_domains::LiveVarState;
 
 // Rule k of the slices, applied to the set m after it.
@@ -48,4 +52,45 @@ pub fn execute_block(
         set = apply(kills, gens, assigns, k, set);
     }
     set
+}
+
+// The nodes of a part each receive m.
+fn hand_on(
+    sets: &mut [u64],
+    met: &mut [u8],
+    q: &mut [u16],
+    start: Cursor,
+    part: &[u16],
+    m: LiveVarState,
+) -> Cursor
+    requires { ⌜ CanHand (length (now met)) (now sets) (now met) (now q) start (now part) (mask m) ⌝ }
+    ensures { λ r. ⌜ HandedOn (length (now (met .entry))) (now (sets .entry)) (now (met .entry)) (now (q .entry)) start (now (part .entry)) (mask m) (now (sets .exit)) (now (met .exit)) (now (q .exit)) r ⌝ }
+{
+    let mut c = start;
+    let mut i = 0;
+    while i < part.len() {
+        c = receive_at(sets, met, q, c, part[i], m);
+        i += 1;
+    }
+    c
+}
+
+// All blocks, by ascending key, each receive m.
+fn hand_all(
+    sets: &mut [u64],
+    met: &mut [u8],
+    q: &mut [u16],
+    start: Cursor,
+    m: LiveVarState,
+) -> Cursor
+    requires { ⌜ CanHand (length (now met)) (now sets) (now met) (now q) start (tab (length (now met) - 2) 2 (λ b. b)) (mask m) × (length (now met) ≤ 65536) ⌝ }
+    ensures { λ r. ⌜ HandedOn (length (now (met .entry))) (now (sets .entry)) (now (met .entry)) (now (q .entry)) start (tab (length (now (met .entry)) - 2) 2 (λ b. b)) (mask m) (now (sets .exit)) (now (met .exit)) (now (q .exit)) r ⌝ }
+{
+    let mut c = start;
+    let mut k = 2;
+    while k < met.len() {
+        c = receive_at(sets, met, q, c, k as u16, m);
+        k += 1;
+    }
+    c
 }
