@@ -43,8 +43,9 @@ pub record Bounds (code : List Bytecode) (ks lows ups : List ℕ) : Type 0 where
   pub low : (i : ℕ) → i < length ks → getD lows i 0 ≡ getD ks i 0
   pub up : (i : ℕ) → i < length ks → getD ups i 0 ≡ upperOf code (getD ks i 0)
 
--- the rules, edges and bounds of the code
+-- the rules, edges and bounds of sound code
 pub record Tables (code : List Bytecode) (kills gens assigns preds starts lows ups : List ℕ) : Type 0 where
+  pub sound : Sound code
   pub ruled : Ruled code kills gens assigns
   pub room : RuleRoom (length code) kills gens assigns
   pub edges : Edges code (keyed code) preds starts
@@ -70,3 +71,28 @@ pub record HandedOn (n : ℕ) (sets met q : List ℕ) (c : Cursor) (ps : List �
   pub state : stateAt n sets₁ met₁ q₁ r ≡ over (receive m) (stateAt n sets met q c) ps
   pub same-head : r .head ≡ c .head
   pub list-fits : r .head + r .len ≤ length q
+
+-- ---- one key
+
+-- the slices reach as far as the set of key k and, of a block, its bounds and its rules
+pub record CanOut (kills gens assigns lows ups sets : List ℕ) (k : ℕ) : Type 0 where
+  pub own : setWords * k + setWords ≤ length sets
+  pub low : k < 2 + length lows
+  pub up : k < 2 + length ups
+  pub rules : 2 ≤ k → RuleRoom (getD ups (k - 2) 0 + 1) kills gens assigns
+
+-- what k hands on, and to whom
+abbrev pub given : List Bytecode → List ℕ → ℕ → ℕ
+given code sets k = outOf code (keyed code) k (setAt sets k)
+
+abbrev pub leads : List Bytecode → ℕ → List ℕ
+leads code k = leadsTo (nextsOf code (keyed code)) k
+
+-- the slices have the tables of some code, and those that key k leads to can receive what it hands on
+pub record CanStep (kills gens assigns preds starts lows ups sets met q : List ℕ) (c : Cursor) (k : ℕ) : Type 0 where
+  pub code : List Bytecode
+  pub tables : Tables code kills gens assigns preds starts lows ups
+  pub nodes : length met ≡ 2 + length (keyed code)
+  pub few : length met ≤ 65536
+  pub inside : k < length met
+  pub hands : CanHand (length met) sets met q c (leads code k) (given code sets k)

@@ -3,7 +3,7 @@ use mathlib.Core.Path.{_≡_, refl, sym, ap, ap₂, _∙_, subst}
 use mathlib.Core.Logic.{_⊎_, inl, inr}
 use mathlib.Core.Bool.{Bool, true, false, cond, _&&_}
 use mathlib.Core.List.{List, [], _∷_, _++_}
-use Prim.Native.Nat.{ℕ, suc, _+_, _-_, _*_, _≤_, _<_}
+use Prim.Native.Nat.{ℕ, zero, suc, _+_, _-_, _*_, _≤_, _<_}
 use native.Mathlib.Numerals.{add-one}
 use native.Mathlib.Omega.{arith}
 use borrow.Author.Tests.{ne-eqb}
@@ -12,7 +12,7 @@ use lib.ListN.{getD, length, take, drop, length-drop}
 use lib.Seq.{take-suc, take-all, getD-drop}
 use Rattle.base.specs.Sizes.{setWords}
 use Rattle.base.specs.Lists.{over}
-use Rattle.base.specs.ListLaws.{over-append}
+use Rattle.base.specs.ListLaws.{over-append, getD-in}
 use Rattle.dataflow_domains.specs.Mask.{union, minus}
 use Rattle.dataflow_domains.specs.Sets.{setAt, setsOf}
 use Rattle.dataflow_analysis.specs.declared.Cursor.{Cursor}
@@ -23,10 +23,13 @@ use Rattle.dataflow_analysis.specs.QueueLaws.{list-length}
 use Rattle.dataflow_analysis.specs.ReceiptLaws.{news-at}
 use Rattle.stackless_bytecode.specs.declared.Bytecode.{Bytecode}
 use Rattle.stackless_bytecode.specs.Kinds.{at, nop}
+use Rattle.stackless_bytecode.specs.SuccessorLaws.{Sound}
+use Rattle.stackless_control_flow_graph.specs.Blocks.{upperOf, keyed}
+use Rattle.stackless_control_flow_graph.specs.BlockLaws.{upper-lt, in-keyed}
 use Rattle.livevar_analysis.specs.Live.{execute}
-use Rattle.livevar_analysis.specs.Analysis.{executeAll}
+use Rattle.livevar_analysis.specs.Analysis.{executeAll, restOf, outOf}
 use Rattle.livevar_analysis.specs.Rules.{applied, ruleAt}
-use Rattle.livevar_analysis.specs.Engine.{stateAt, CanHand, HandedOn}
+use Rattle.livevar_analysis.specs.Engine.{Bounds, stateAt, CanHand, HandedOn}
 
 -- ---- one rule
 
@@ -137,3 +140,33 @@ module _ (n : ℕ) (sets₀ met₀ q₀ : List ℕ) (c₀ : Cursor) (ps : List �
     same-head = h .same-head;
     list-fits = h .list-fits;
   }
+
+-- ---- what a key hands on
+
+pub out-dummy : (code : List Bytecode) (ks : List ℕ) (k m : ℕ) → k < 2 → outOf code ks k m ≡ m
+unfolding outOf
+out-dummy code ks zero m h = refl
+out-dummy code ks (suc zero) m h = refl
+out-dummy code ks (suc (suc k)) m h = absurd (omega arith)
+
+module _ (code : List Bytecode) (sound : Sound code) (lows ups : List ℕ) (bounds : Bounds code (keyed code) lows ups) (k : ℕ) (block : 2 ≤ k) (inside : k < 2 + length (keyed code)) where
+  key-inside : k - 2 < length (keyed code)
+  key-inside = omega arith
+
+  -- a block ends within the code
+  pub upper-inside : getD ups (k - 2) 0 < length code
+  upper-inside =
+      let o = getD (keyed code) (k - 2) 0 in
+      subst (λ (x : ℕ). x < length code) (sym (bounds .up (k - 2) key-inside)) (upper-lt code o (in-keyed code sound o (getD-in (keyed code) (k - 2) 0 key-inside) .inside))
+
+  pub out-block : (lower upper m : ℕ) → lower ≡ getD lows (k - 2) 0 → upper ≡ getD ups (k - 2) 0
+      → executeAll (take (suc upper - lower) (drop lower code)) m ≡ outOf code (keyed code) k m
+  out-block lower upper m l u =
+      ap₂ (λ (x y : ℕ). executeAll (take (suc y - x) (drop x code)) m) (l ∙ bounds .low (k - 2) key-inside) (u ∙ bounds .up (k - 2) key-inside)
+      ∙ sym (ap (λ (x : ℕ). outOf code (keyed code) x m) key-is ∙ is)
+    where
+      key-is : k ≡ suc (suc (k - 2))
+      key-is = omega arith
+
+      is : outOf code (keyed code) (suc (suc (k - 2))) m ≡ executeAll (take (suc (upperOf code (getD (keyed code) (k - 2) 0)) - getD (keyed code) (k - 2) 0) (drop (getD (keyed code) (k - 2) 0) code)) m
+      is = unfold outOf restOf in refl

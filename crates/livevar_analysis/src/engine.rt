@@ -6,9 +6,11 @@ ghost use lib.ListN.{length, take, drop};
 ghost use Rattle.base.specs.Lists.{tab};
 ghost use Rattle.dataflow_domains.specs.Sets.{mask};
 ghost use Rattle.stackless_bytecode.specs.declared.Bytecode.{Bytecode};
+ghost use Rattle.stackless_bytecode.specs.SuccessorLaws.{Sound};
+ghost use Rattle.stackless_control_flow_graph.specs.Blocks.{keyed};
 ghost use Rattle.livevar_analysis.specs.Analysis.{executeAll};
 ghost use Rattle.livevar_analysis.specs.Rules.{ruleAt, Ruled, RuleRoom};
-ghost use Rattle.livevar_analysis.specs.Engine.{CanHand, HandedOn};
+ghost use Rattle.livevar_analysis.specs.Engine.{Bounds, Tables, CanHand, HandedOn, CanOut, given, leads, CanStep};
 use dataflow_analysis::Cursor;
 use dataflow_analysis::receive_at;
 use dataflow_domains::LiveVarState;
@@ -93,4 +95,34 @@ fn hand_all(
         k += 1;
     }
     c
+}
+
+fn wide(x: u16) -> usize
+    ensures { λ r. ⌜ r ≡ x ⌝ }
+{
+    x as usize
+}
+
+// What key k hands on: a dummy its own set, a block the set before it.
+fn out_of(
+    kills: &[u64],
+    gens: &[u64],
+    assigns: &[u8],
+    lows: &[u16],
+    ups: &[u16],
+    sets: &[u64],
+    k: u16,
+) -> LiveVarState
+    requires { ⌜ CanOut (now kills) (now gens) (now assigns) (now lows) (now ups) (now sets) k ⌝ }
+    ensures { λ r. ⌜ ((code : List Bytecode) → Sound code → Ruled code (now (kills .entry)) (now (gens .entry)) (now (assigns .entry)) → Bounds code (keyed code) (now (lows .entry)) (now (ups .entry)) → k < 2 + length (keyed code) → mask r ≡ given code (now (sets .entry)) k) ⌝ }
+{
+    let key = wide(k);
+    let own = LiveVarState::load(sets, key);
+    if key < 2 {
+        return own;
+    }
+    let b = key - 2;
+    let lower = wide(lows[b]);
+    let upper = wide(ups[b]);
+    execute_block(kills, gens, assigns, lower, upper, own)
 }
