@@ -2,16 +2,16 @@
 use mathlib.Core.Path.{_≡_, refl, sym, ap, ap₂, _∙_, subst}
 use mathlib.Core.Logic.{_⊎_, inl, inr}
 use mathlib.Core.Bool.{Bool, true, false, cond, _&&_}
-use mathlib.Core.List.{List, [], _∷_, _++_}
+use mathlib.Core.List.{List, [], _∷_, _++_, map}
 use Prim.Native.Nat.{ℕ, zero, suc, _+_, _-_, _*_, _≤_, _<_}
 use native.Mathlib.Numerals.{add-one}
 use native.Mathlib.Omega.{arith}
 use borrow.Author.Tests.{ne-eqb}
 use lib.Dec.{eqb}
-use lib.ListN.{getD, length, take, drop, length-drop}
+use lib.ListN.{getD, length, take, drop, length-drop, length-map}
 use lib.Seq.{take-suc, take-all, getD-drop}
 use Rattle.base.specs.Sizes.{setWords}
-use Rattle.base.specs.Lists.{over}
+use Rattle.base.specs.Lists.{over, tab}
 use Rattle.base.specs.ListLaws.{over-append, getD-in}
 use Rattle.dataflow_domains.specs.Mask.{union, minus}
 use Rattle.dataflow_domains.specs.Sets.{setAt, setsOf}
@@ -23,13 +23,15 @@ use Rattle.dataflow_analysis.specs.QueueLaws.{list-length}
 use Rattle.dataflow_analysis.specs.ReceiptLaws.{news-at}
 use Rattle.stackless_bytecode.specs.declared.Bytecode.{Bytecode}
 use Rattle.stackless_bytecode.specs.Kinds.{at, nop}
+use Rattle.stackless_bytecode.specs.Successors.{successors}
 use Rattle.stackless_bytecode.specs.SuccessorLaws.{Sound}
-use Rattle.stackless_control_flow_graph.specs.Blocks.{upperOf, keyed}
+use Rattle.stackless_control_flow_graph.specs.Blocks.{upperOf, keyed, keyOf}
+use Rattle.stackless_control_flow_graph.specs.Backward.{nextsOf, leadsTo}
 use Rattle.stackless_control_flow_graph.specs.BlockLaws.{upper-lt, in-keyed}
 use Rattle.livevar_analysis.specs.Live.{execute}
 use Rattle.livevar_analysis.specs.Analysis.{executeAll, restOf, outOf}
-use Rattle.livevar_analysis.specs.Rules.{applied, ruleAt}
-use Rattle.livevar_analysis.specs.Engine.{Bounds, stateAt, CanHand, HandedOn}
+use Rattle.livevar_analysis.specs.Rules.{applied, ruleAt, RuleRoom}
+use Rattle.livevar_analysis.specs.Engine.{Bounds, stateAt, CanHand, HandedOn, CanOut, leads, CanStep}
 
 -- ---- one rule
 
@@ -170,3 +172,41 @@ module _ (code : List Bytecode) (sound : Sound code) (lows ups : List ℕ) (boun
 
       is : outOf code (keyed code) (suc (suc (k - 2))) m ≡ executeAll (take (suc (upperOf code (getD (keyed code) (k - 2) 0)) - getD (keyed code) (k - 2) 0) (drop (getD (keyed code) (k - 2) 0) code)) m
       is = unfold outOf restOf in refl
+
+-- ---- one key hands on
+
+-- the same nodes, and the same set
+pub can-hand-as : (n : ℕ) (sets met q : List ℕ) (c : Cursor) {ps ps′ : List ℕ} {m m′ : ℕ} → ps ≡ ps′ → m ≡ m′ → CanHand n sets met q c ps m → CanHand n sets met q c ps′ m′
+can-hand-as n sets met q c {ps} {ps′} {m} {m′} e f h = subst (λ (x : ℕ). CanHand n sets met q c ps′ x) f (subst (λ (x : List ℕ). CanHand n sets met q c x m) e h)
+
+pub handed-as : (n : ℕ) (sets met q : List ℕ) (c : Cursor) {ps ps′ : List ℕ} {m m′ : ℕ} (sets₁ met₁ q₁ : List ℕ) (r : Cursor) → ps ≡ ps′ → m ≡ m′
+    → HandedOn n sets met q c ps m sets₁ met₁ q₁ r → HandedOn n sets met q c ps′ m′ sets₁ met₁ q₁ r
+handed-as n sets met q c {ps} {ps′} {m} {m′} sets₁ met₁ q₁ r e f h =
+    subst (λ (x : ℕ). HandedOn n sets met q c ps′ x sets₁ met₁ q₁ r) f (subst (λ (x : List ℕ). HandedOn n sets met q c x m sets₁ met₁ q₁ r) e h)
+
+nexts-length : (code : List Bytecode) (ks : List ℕ) → length (nextsOf code ks) ≡ 2 + length ks
+unfolding nextsOf
+nexts-length code ks = omega (arith, length-map ks (λ o. map (keyOf ks) (successors code (upperOf code o))))
+
+-- key 1 leads to all blocks
+pub leads-all : (code : List Bytecode) (n k : ℕ) → n ≡ 2 + length (keyed code) → k ≡ 1 → tab (n - 2) 2 (λ b. b) ≡ leads code k
+leads-all code n k e one =
+    let size : n - 2 ≡ length (nextsOf code (keyed code)) - 2 = omega (arith, nexts-length code (keyed code)) in
+    ap (λ (x : ℕ). tab x 2 (λ b. b)) size ∙ sym (ap (leadsTo (nextsOf code (keyed code))) one ∙ (unfold leadsTo in refl))
+
+module _ (kills gens assigns preds starts lows ups sets met q : List ℕ) (c : Cursor) (k : ℕ) (can : CanStep kills gens assigns preds starts lows ups sets met q c k) where
+  pub step-out : CanOut kills gens assigns lows ups sets k
+  step-out =
+      let t = can .tables in
+      let b = t .bounds in
+      record {
+        own = omega (arith, can .inside, can .hands .sets-fit);
+        low = omega (arith, can .inside, can .nodes, b .lows-long);
+        up = omega (arith, can .inside, can .nodes, b .ups-long);
+        rules = λ block. within (upper-inside (can .code) (t .sound) lows ups b k block (omega (arith, can .inside, can .nodes)));
+      }
+    where
+      within : getD ups (k - 2) 0 < length (can .code) → RuleRoom (getD ups (k - 2) 0 + 1) kills gens assigns
+      within h =
+          let r = can .tables .room in
+          record { kills-fit = omega (arith, r .kills-fit); gens-fit = omega (arith, r .gens-fit); assigns-fit = omega (arith, r .assigns-fit) }

@@ -126,3 +126,31 @@ fn out_of(
     let upper = wide(ups[b]);
     execute_block(kills, gens, assigns, lower, upper, own)
 }
+
+// Key k, which is off the list, hands on: key 1 to all blocks, any other to its part of `preds`.
+fn step(
+    kills: &[u64],
+    gens: &[u64],
+    assigns: &[u8],
+    preds: &[u16],
+    starts: &[u16],
+    lows: &[u16],
+    ups: &[u16],
+    sets: &mut [u64],
+    met: &mut [u8],
+    q: &mut [u16],
+    c: Cursor,
+    k: u16,
+) -> Cursor
+    requires { ⌜ CanStep (now kills) (now gens) (now assigns) (now preds) (now starts) (now lows) (now ups) (now sets) (now met) (now q) c k ⌝ }
+    ensures { λ r. ⌜ ((code : List Bytecode) → Tables code (now (kills .entry)) (now (gens .entry)) (now (assigns .entry)) (now (preds .entry)) (now (starts .entry)) (now (lows .entry)) (now (ups .entry)) → length (now (met .entry)) ≡ 2 + length (keyed code) → HandedOn (length (now (met .entry))) (now (sets .entry)) (now (met .entry)) (now (q .entry)) c (leads code k) (given code (now (sets .entry)) k) (now (sets .exit)) (now (met .exit)) (now (q .exit)) r) ⌝ }
+{
+    let m = out_of(kills, gens, assigns, lows, ups, sets, k);
+    if k == 1 {
+        return hand_all(sets, met, q, c, m);
+    }
+    let key = wide(k);
+    let from = wide(starts[key]);
+    let to = wide(starts[key + 1]);
+    hand_on(sets, met, q, c, &preds[from..to], m)
+}
