@@ -9,7 +9,7 @@ use Rattle.base.specs.Sizes.{setWords, maxLocals, maxInstructions, maxTaken}
 use Rattle.base.specs.Lists.{over}
 use Rattle.dataflow_domains.specs.Sets.{setAt, setsOf}
 use Rattle.dataflow_analysis.specs.declared.Cursor.{Cursor}
-use Rattle.dataflow_analysis.specs.Worklist.{State, news, receive}
+use Rattle.dataflow_analysis.specs.Worklist.{State, begin, news, receive}
 use Rattle.dataflow_analysis.specs.MaskList.{masks}
 use Rattle.dataflow_analysis.specs.Queue.{stateOf}
 use Rattle.stackless_bytecode.specs.declared.Bytecode.{Bytecode}
@@ -43,9 +43,8 @@ pub record Bounds (code : List Bytecode) (ks lows ups : List ℕ) : Type 0 where
   pub low : (i : ℕ) → i < length ks → getD lows i 0 ≡ getD ks i 0
   pub up : (i : ℕ) → i < length ks → getD ups i 0 ≡ upperOf code (getD ks i 0)
 
--- the rules, edges and bounds of sound code
+-- the rules, edges and bounds of the code
 pub record Tables (code : List Bytecode) (kills gens assigns preds starts lows ups : List ℕ) : Type 0 where
-  pub sound : Sound code
   pub ruled : Ruled code kills gens assigns
   pub room : RuleRoom (length code) kills gens assigns
   pub edges : Edges code (keyed code) preds starts
@@ -88,11 +87,51 @@ given code sets k = outOf code (keyed code) k (setAt sets k)
 abbrev pub leads : List Bytecode → ℕ → List ℕ
 leads code k = leadsTo (nextsOf code (keyed code)) k
 
--- the slices have the tables of some code, and those that key k leads to can receive what it hands on
+-- the slices have the tables of some sound code, and those that key k leads to can receive what it hands on
 pub record CanStep (kills gens assigns preds starts lows ups sets met q : List ℕ) (c : Cursor) (k : ℕ) : Type 0 where
   pub code : List Bytecode
+  pub sound : Sound code
   pub tables : Tables code kills gens assigns preds starts lows ups
   pub nodes : length met ≡ 2 + length (keyed code)
   pub few : length met ≤ 65536
   pub inside : k < length met
   pub hands : CanHand (length met) sets met q c (leads code k) (given code sets k)
+
+-- ---- the run
+
+-- the slices have the tables of the code, and the state in which key 1 waits
+pub record Begun (code : List Bytecode) (locals : ℕ) (kills gens assigns preds starts lows ups sets met q : List ℕ) (c : Cursor) : Type 0 where
+  pub analyzable : Analyzable code locals
+  pub tables : Tables code kills gens assigns preds starts lows ups
+  pub nodes : length met ≡ 2 + length (keyed code)
+  pub sets-fit : length met * setWords ≤ length sets
+  pub list-long : length q ≡ maxTaken
+  pub list-fits : c .head + c .len ≤ length q
+  pub state : stateAt (2 + length (keyed code)) sets met q c ≡ begin (2 + length (keyed code)) 1
+
+-- of some code
+pub record CanRun (kills gens assigns preds starts lows ups sets met q : List ℕ) (c : Cursor) : Type 0 where
+  pub code : List Bytecode
+  pub locals : ℕ
+  pub begun : Begun code locals kills gens assigns preds starts lows ups sets met q c
+
+-- the slices have the tables of the code; a set and a flag for each node, all 0; and a list as long as the taken bound
+pub record Input (code : List Bytecode) (locals : ℕ) (kills gens assigns preds starts lows ups sets met q : List ℕ) : Type 0 where
+  pub analyzable : Analyzable code locals
+  pub tables : Tables code kills gens assigns preds starts lows ups
+  pub nodes : length met ≡ 2 + length (keyed code)
+  pub sets-fit : length met * setWords ≤ length sets
+  pub list-long : length q ≡ maxTaken
+  pub sets-blank : (k : ℕ) → getD sets k 0 ≡ 0
+  pub met-blank : (k : ℕ) → getD met k 0 ≡ 0
+
+-- of some code
+pub record CanSolve (kills gens assigns preds starts lows ups sets met q : List ℕ) : Type 0 where
+  pub code : List Bytecode
+  pub locals : ℕ
+  pub input : Input code locals kills gens assigns preds starts lows ups sets met q
+
+-- r keys were taken, and the sets are those of the definition
+pub record Solved (code : List Bytecode) (locals r : ℕ) (sets : List ℕ) : Type 0 where
+  pub taken : r ≡ analyzeFunction code (keyed code) locals .taken
+  pub final : setsOf (2 + length (keyed code)) sets ≡ analyzeFunction code (keyed code) locals .sets

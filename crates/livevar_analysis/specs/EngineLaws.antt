@@ -203,7 +203,7 @@ module _ (kills gens assigns preds starts lows ups sets met q : List ℕ) (c : C
         own = omega (arith, can .inside, can .hands .sets-fit);
         low = omega (arith, can .inside, can .nodes, b .lows-long);
         up = omega (arith, can .inside, can .nodes, b .ups-long);
-        rules = λ block. within (upper-inside (can .code) (t .sound) lows ups b k block (omega (arith, can .inside, can .nodes)));
+        rules = λ block. within (upper-inside (can .code) (can .sound) lows ups b k block (omega (arith, can .inside, can .nodes)));
       }
     where
       within : getD ups (k - 2) 0 < length (can .code) → RuleRoom (getD ups (k - 2) 0 + 1) kills gens assigns

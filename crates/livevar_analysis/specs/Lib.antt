@@ -13,3 +13,4 @@ pub mod Engine
 pub mod DecodeLaws
 pub mod InputLaws
 pub mod EngineLaws
+pub mod RunLaws

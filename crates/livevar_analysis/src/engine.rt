@@ -143,7 +143,7 @@ fn step(
     k: u16,
 ) -> Cursor
     requires { ⌜ CanStep (now kills) (now gens) (now assigns) (now preds) (now starts) (now lows) (now ups) (now sets) (now met) (now q) c k ⌝ }
-    ensures { λ r. ⌜ ((code : List Bytecode) → Tables code (now (kills .entry)) (now (gens .entry)) (now (assigns .entry)) (now (preds .entry)) (now (starts .entry)) (now (lows .entry)) (now (ups .entry)) → length (now (met .entry)) ≡ 2 + length (keyed code) → HandedOn (length (now (met .entry))) (now (sets .entry)) (now (met .entry)) (now (q .entry)) c (leads code k) (given code (now (sets .entry)) k) (now (sets .exit)) (now (met .exit)) (now (q .exit)) r) ⌝ }
+    ensures { λ r. ⌜ ((code : List Bytecode) → Sound code → Tables code (now (kills .entry)) (now (gens .entry)) (now (assigns .entry)) (now (preds .entry)) (now (starts .entry)) (now (lows .entry)) (now (ups .entry)) → length (now (met .entry)) ≡ 2 + length (keyed code) → HandedOn (length (now (met .entry))) (now (sets .entry)) (now (met .entry)) (now (q .entry)) c (leads code k) (given code (now (sets .entry)) k) (now (sets .exit)) (now (met .exit)) (now (q .exit)) r) ⌝ }
 {
     let m = out_of(kills, gens, assigns, lows, ups, sets, k);
     if k == 1 {

@@ -5,6 +5,7 @@ use Prim.Native.Nat.{ℕ, _+_, _-_, _≤_, _<_}
 use lib.ListN.{length, getD, take, drop}
 use Rattle.dataflow_domains.specs.Sets.{mask}
 use Rattle.stackless_bytecode.specs.declared.Bytecode.{Bytecode}
+use Rattle.stackless_bytecode.specs.SuccessorLaws.{Sound}
 use Rattle.stackless_control_flow_graph.specs.Blocks.{keyed}
 use Rattle.livevar_analysis.specs.Engine.{Tables, given, leads}
 use Rattle.livevar_analysis.specs.EngineLaws.{step-out, can-hand-as, handed-as, leads-all}
@@ -23,14 +24,14 @@ out-of-requires : tie.Need-out-of-requires
 out-of-requires c κs = step-out _ _ _ _ _ _ _ _ _ _ _ _ (c .before .before .before .before .before .before .before .before .before .before .before .pre)
 
 -- what `out_of` gave is what k hands on
-gives : (c : tie.After-out-of) (code : List Bytecode) → Tables code (c .before .before .before .before .before .before .before .before .before .before .before .before .args .kills .now) (c .before .before .before .before .before .before .before .before .before .before .before .before .args .gens .now) (c .before .before .before .before .before .before .before .before .before .before .before .before .args .assigns .now) (c .before .before .before .before .before .before .before .before .before .before .before .before .args .preds .now) (c .before .before .before .before .before .before .before .before .before .before .before .before .args .starts .now) (c .before .before .before .before .before .before .before .before .before .before .before .before .args .lows .now) (c .before .before .before .before .before .before .before .before .before .before .before .before .args .ups .now)
+gives : (c : tie.After-out-of) (code : List Bytecode) → Sound code → Tables code (c .before .before .before .before .before .before .before .before .before .before .before .before .args .kills .now) (c .before .before .before .before .before .before .before .before .before .before .before .before .args .gens .now) (c .before .before .before .before .before .before .before .before .before .before .before .before .args .assigns .now) (c .before .before .before .before .before .before .before .before .before .before .before .before .args .preds .now) (c .before .before .before .before .before .before .before .before .before .before .before .before .args .starts .now) (c .before .before .before .before .before .before .before .before .before .before .before .before .args .lows .now) (c .before .before .before .before .before .before .before .before .before .before .before .before .args .ups .now)
     → length (c .before .before .before .before .before .before .before .before .before .before .before .before .args .met .now) ≡ 2 + length (keyed code) → mask (c .out-of .result) ≡ given code (c .before .before .before .before .before .before .before .before .before .before .before .before .args .sets .now) (c .before .before .before .before .before .before .before .before .before .before .before .before .args .k)
-gives c code t n = c .out-of .ensures code (t .sound) (t .ruled) (t .bounds) (omega (arith, c .before .before .before .before .before .before .before .before .before .before .before .before .pre .inside))
+gives c code sound t n = c .out-of .ensures code sound (t .ruled) (t .bounds) (omega (arith, c .before .before .before .before .before .before .before .before .before .before .before .before .pre .inside))
 
 hand-all-requires : tie.Need-hand-all-requires
 hand-all-requires c κs =
     let p = c .before .before .before .before .before .before .before .before .before .before .before .before .before .before .before .before .pre in
-    (can-hand-as _ _ _ _ _ (sym (leads-all (p .code) _ _ (p .nodes) (c .before .before .before .if1 .taken))) (sym (gives (c .before .before .before .before) (p .code) (p .tables) (p .nodes))) (p .hands), p .few)
+    (can-hand-as _ _ _ _ _ (sym (leads-all (p .code) _ _ (p .nodes) (c .before .before .before .if1 .taken))) (sym (gives (c .before .before .before .before) (p .code) (p .sound) (p .tables) (p .nodes))) (p .hands), p .few)
 
 same-length : tie.Need-same-length
 same-length c = search needs
@@ -42,8 +43,8 @@ same-length-3 : tie.Need-same-length-3
 same-length-3 c = search needs
 
 returns : tie.Need-returns
-returns c code tables nodes =
-    handed-as _ _ _ _ _ _ _ _ _ (leads-all code _ _ nodes (c .before .before .before .before .before .before .before .before .before .before .if1 .taken)) (gives (c .before .before .before .before .before .before .before .before .before .before .before) code tables nodes) (c .before .before .before .before .before .before .hand-all .ensures)
+returns c code sound tables nodes =
+    handed-as _ _ _ _ _ _ _ _ _ (leads-all code _ _ nodes (c .before .before .before .before .before .before .before .before .before .before .if1 .taken)) (gives (c .before .before .before .before .before .before .before .before .before .before .before) code sound tables nodes) (c .before .before .before .before .before .before .hand-all .ensures)
 
 wide-requires : tie.Need-wide-requires
 wide-requires c κs = search needs
@@ -104,7 +105,7 @@ part-hand-on-end c = let h = inside (c .before .before .before) in search needs
 hand-on-requires : tie.Need-hand-on-requires
 hand-on-requires c κs =
     let p = c .before .before .before .before .before .before .before .before .before .before .before .before .before .before .before .before .before .before .before .before .before .before .pre in
-    can-hand-as _ _ _ _ _ (sym (part-is (c .before .before .before .before) (p .code) (p .tables) (p .nodes))) (sym (gives (c .before .before .before .before .before .before .before .before .before .before) (p .code) (p .tables) (p .nodes))) (p .hands)
+    can-hand-as _ _ _ _ _ (sym (part-is (c .before .before .before .before) (p .code) (p .tables) (p .nodes))) (sym (gives (c .before .before .before .before .before .before .before .before .before .before) (p .code) (p .sound) (p .tables) (p .nodes))) (p .hands)
 
 same-length-4 : tie.Need-same-length-4
 same-length-4 c = search needs
@@ -116,8 +117,8 @@ same-length-6 : tie.Need-same-length-6
 same-length-6 c = search needs
 
 returns-2 : tie.Need-returns-2
-returns-2 c code tables nodes =
-    handed-as _ _ _ _ _ _ _ _ _ (part-is (c .before .before .before .before .before .before .before .before .before .before .before) code tables nodes) (gives (c .before .before .before .before .before .before .before .before .before .before .before .before .before .before .before .before .before) code tables nodes) (c .before .before .before .before .before .before .hand-on .ensures)
+returns-2 c code sound tables nodes =
+    handed-as _ _ _ _ _ _ _ _ _ (part-is (c .before .before .before .before .before .before .before .before .before .before .before) code tables nodes) (gives (c .before .before .before .before .before .before .before .before .before .before .before .before .before .before .before .before .before) code sound tables nodes) (c .before .before .before .before .before .before .hand-on .ensures)
 
 pub step-spec : {M : Type 1} → statement M
 step-spec =
