@@ -8,3 +8,7 @@ pub mod Term3
 pub mod RewriteLaws
 pub mod RewriteAccepted
 pub mod Walk
+pub mod Rules
+pub mod DecodeLaws
+pub mod InputLaws
+pub mod EngineLaws
