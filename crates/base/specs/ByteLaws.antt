@@ -1,12 +1,13 @@
--- One turn of a loop over bytes: their sum, and whether the number in them has no bit at or above a place. Assumes nothing.
+-- One turn of a loop over bytes: their sum, whether all are 0, and whether the number in them has no bit at or above a place. Assumes nothing.
 use mathlib.Core.Path.{_≡_, refl, sym, ap, ap₂, _∙_}
-use mathlib.Core.Bool.{Bool, true, false, _&&_, _||_, and-true as and-unit, and-assoc}
+use mathlib.Core.Bool.{Bool, true, false, _&&_, and-true as and-unit, and-assoc}
 use mathlib.Core.List.{List}
-use Prim.Native.Nat.{ℕ, suc, _+_, _-_, _*_, _/_, _^_, _≤_, _<_, max}
+use Prim.Native.Nat.{ℕ, suc, _+_, _-_, _*_, _/_, _^_, _≤_, _<_}
 use native.Mathlib.Nat.{one-mul, div-eq-of-lt, le-div-iff-mul-le}
 use native.Mathlib.Numerals.{add-one}
 use native.Mathlib.Omega.{arith}
-use borrow.Author.Tests.{lt-ltb, le-ltb, ltb-true, eq-eqb, ne-eqb}
+use borrow.Author.Tests.{lt-ltb, le-ltb, ltb-true, eq-eqb, ne-eqb, eqb-true}
+use lib.Bits.{bitOr, or-add-and, and-le-l, and-le-r}
 use lib.Dec.{eqb, ltb}
 use lib.ListN.{getD, length, drop, drop-of-length-le}
 use lib.Pow.{pow-pos, pow-mono, pow-add}
@@ -15,6 +16,12 @@ use Rattle.base.specs.Lists.{sum, zeros}
 use Rattle.base.specs.Bytes.{number}
 use Rattle.base.specs.ListLaws.{and-true}
 use Rattle.base.specs.JoinLaws.{by-lt}
+
+-- two tests that hold together are one
+same-test : (a b : Bool) → (a ≡ true → b ≡ true) → (b ≡ true → a ≡ true) → a ≡ b
+same-test true b f g = sym (f refl)
+same-test false true f g = g refl
+same-test false false f g = refl
 
 -- ---- the sum
 
@@ -26,26 +33,25 @@ pub sum-end : (s : List ℕ) (i : ℕ) → length s ≤ i → sum (drop i s) ≡
 unfolding sum
 sum-end s i h = ap sum (drop-of-length-le s h)
 
--- ---- zeros from n on, each place looked at
+-- ---- zeros, all bytes gathered by `or`
 
-pub zeros-from : (s : List ℕ) (n i : ℕ) (b : Bool) → i < length s → b && zeros (drop (max i n) s) ≡ b && (ltb i n || eqb (getD s i 0) 0) && zeros (drop (max (i + 1) n) s)
+or-none : (a b : ℕ) → eqb (bitOr a b) 0 ≡ eqb a 0 && eqb b 0
+or-none a b =
+    same-test _ _
+    (λ e. let z = eqb-true (bitOr a b) 0 e in
+    ap₂ _&&_ (eq-eqb a 0 (omega (arith, or-add-and a b, and-le-r a b))) (eq-eqb b 0 (omega (arith, or-add-and a b, and-le-l a b))))
+    (λ e. let r = and-true (eqb a 0) (eqb b 0) e in
+    eq-eqb (bitOr a b) 0 (omega (arith, or-add-and a b, eqb-true a 0 (r .0), eqb-true b 0 (r .1))))
+
+pub zeros-or : (s : List ℕ) (i m : ℕ) → i < length s → eqb m 0 && zeros (drop i s) ≡ eqb (bitOr m (getD s i 0)) 0 && zeros (drop (i + 1) s)
 unfolding zeros
-zeros-from s n i b h =
-    by-lt i n
-    (λ l. let now : max i n ≡ n = omega arith in
-    let next : max (i + 1) n ≡ n = omega arith in
-    rw (now, next, lt-ltb i n l, and-unit b))
-    (λ l. let now : max i n ≡ i = omega arith in
-    let next : max (i + 1) n ≡ suc i = omega arith in
-    rw (now, next, le-ltb i n l, drop-cons s i 0 h, and-assoc b))
+zeros-or s i m h = rw (add-one, drop-cons s i 0 h, or-none) (sym (and-assoc (eqb m 0) (eqb (getD s i 0) 0) (zeros (drop (suc i) s))))
+
+pub zeros-or-end : (s : List ℕ) (i m : ℕ) → length s ≤ i → eqb m 0 && zeros (drop i s) ≡ eqb m 0
+unfolding zeros
+zeros-or-end s i m h = ap (λ (xs : List ℕ). eqb m 0 && zeros xs) (drop-of-length-le s h) ∙ and-unit (eqb m 0)
 
 -- ---- the number
-
--- two tests that hold together are one
-same-test : (a b : Bool) → (a ≡ true → b ≡ true) → (b ≡ true → a ≡ true) → a ≡ b
-same-test true b f g = sym (f refl)
-same-test false true f g = g refl
-same-test false false f g = refl
 
 -- what l bits are, with one byte of them in front
 pub record Bits (l : ℕ) : Type 0 where
