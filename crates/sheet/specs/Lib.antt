@@ -1,7 +1,9 @@
 pub mod Layout
 pub mod Checks
+pub mod Shaped
 pub mod CheckLaws
 pub mod EncodeLaws
 pub mod AcceptLaws
 pub mod AcceptedLaws
 pub mod Valid
+pub mod LocalLaws

@@ -2,6 +2,7 @@
 use base::Refusal;
 
 pub mod reader; // reader.rt: numbers, lists and records out of bytes
+pub mod locals; // locals.rt: check 5
 
 // What the checks say of a sheet.
 pub enum Checked {
