@@ -1,3 +1,6 @@
 pub mod Blocks
 pub mod Backward
 pub mod BlockLaws
+pub mod Arrays
+pub mod NextLaws
+pub mod StartLaws

@@ -1,1 +1,10 @@
 // The blocks of a sheet's code, their keys, and the flow table. Assumes nothing.
+pub mod next; // next.rt: the successors of an offset
+pub mod starts; // starts.rt: the successors of every offset, and where blocks start
+
+// The successors of an offset: none, one or two, in ascending order.
+pub struct Successors {
+    pub count: usize,
+    pub first: u16,
+    pub second: u16,
+}

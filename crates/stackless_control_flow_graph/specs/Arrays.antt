@@ -1,0 +1,68 @@
+-- What the arrays hold that the blocks are worked out in. Assumes nothing.
+use mathlib.Core.Path.{_≡_}
+use mathlib.Core.Bool.{cond}
+use mathlib.Core.List.{List, [], _∷_, _++_, List·Memᴰ}
+use Prim.Native.Nat.{ℕ, _+_, _*_, _≤_, _<_}
+use lib.Dec.{eqb}
+use lib.ListN.{getD, set, length, take}
+use Rattle.base.specs.Lists.{over}
+use Rattle.base.specs.Refusals.{Accepted}
+use Rattle.stackless_bytecode.specs.declared.Bytecode.{Bytecode}
+use Rattle.stackless_bytecode.specs.Kinds.{fallsThrough, branchDests}
+use Rattle.stackless_bytecode.specs.Successors.{ascending, successors}
+use Rattle.stackless_bytecode.specs.Slots.{Resolved}
+use Rattle.sheet.specs.Layout.{countOf, codeOf}
+use Rattle.sheet.specs.Checks.{checkSheet}
+use Rattle.stackless_control_flow_graph.specs.declared.Successors.{Successors}
+use Rattle.stackless_control_flow_graph.specs.Blocks.{starts}
+
+-- ---- the successors of an offset
+
+-- none, one or two offsets by value
+abbrev pub listOf : Successors → List ℕ
+listOf p = take (p .count) (p .first ∷ p .second ∷ [])
+
+-- the successors of an instruction whose labels stand at `one` and `two`, and behind which `next` stands
+unfoldable pub succsBy : Bytecode → ℕ → ℕ → ℕ → List ℕ
+succsBy r one two next = ascending (take (length (branchDests r)) (one ∷ two ∷ []) ++ cond (fallsThrough r) (next ∷ []) [])
+
+-- ---- arrays by offset
+
+-- stands for no offset
+abbrev pub noOffset : ℕ
+noOffset = 65535
+
+-- at most two offsets, noOffset filling up
+unfoldable pub pairOf : ℕ → ℕ → List ℕ
+pairOf a b = cond (eqb a noOffset) [] (a ∷ cond (eqb b noOffset) [] (b ∷ []))
+
+-- the two places of offset k
+abbrev pub succsIn : List ℕ → ℕ → List ℕ
+succsIn goes k = pairOf (getD goes (2 * k) 0) (getD goes (2 * k + 1) 0)
+
+-- these two offsets at most, put there
+abbrev pub putTwo : List ℕ → ℕ → List ℕ → List ℕ
+putTwo goes k xs = set (set goes (2 * k) (getD xs 0 noOffset)) (2 * k + 1) (getD xs 1 noOffset)
+
+-- 1 put at each of these offsets
+unfoldable pub markAll : List ℕ → List ℕ → List ℕ
+markAll marks xs = over (λ m x. set m x 1) marks xs
+
+-- each is below n
+pub record Within (n : ℕ) (xs : List ℕ) : Type 0 where
+  pub each : (x : ℕ) → List·Memᴰ x xs → x < n
+
+-- the successors of each offset
+pub record Going (code : List Bytecode) (goes : List ℕ) : Type 0 where
+  pub each : (k : ℕ) → k < length code → succsIn goes k ≡ successors code k
+
+-- 1 where a block starts
+pub record Marked (code : List Bytecode) (marks : List ℕ) : Type 0 where
+  pub each : (k : ℕ) → k < length code → eqb (getD marks k 0) 1 ≡ starts code k
+
+-- ---- what the code is given: an accepted sheet of n instructions, and the offsets of the labels that it names
+pub record Given (s : List ℕ) (n : ℕ) (targets : List ℕ) : Type 0 where
+  pub accepted : checkSheet s ≡ Accepted
+  pub count : n ≡ countOf s
+  pub resolved : Resolved (codeOf s) targets
+  pub slots : 2 * n ≤ length targets
