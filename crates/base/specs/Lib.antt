@@ -8,3 +8,4 @@ pub mod JoinLaws
 pub mod PartLaws
 pub mod CopyLaws
 pub mod WriteLaws
+pub mod ByteLaws

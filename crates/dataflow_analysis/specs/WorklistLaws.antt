@@ -230,6 +230,7 @@ module _ {L : Lattice} (W : Laws L) where
     pub record CoverBut (k : ℕ) (s : A) (st : State L) : Type 0 where
       pub each : (j : ℕ) → Met st j → List·Memᴰ j (st .list) ⊎ (Handed st j ⊎ ((j ≡ k) × (setAt st j ≡ s)))
 
+    -- every one
     pub record Cover (st : State L) : Type 0 where
       pub each : (j : ℕ) → Met st j → List·Memᴰ j (st .list) ⊎ Handed st j
 
@@ -306,10 +307,6 @@ module _ {L : Lattice} (W : Laws L) where
       popped-sets : (j : ℕ) → setAt (popped st ks) j ≡ setAt st j
       unfolding popped
       popped-sets j = refl
-
-      popped-met : (j : ℕ) → getD (popped st ks .met) j 0 ≡ getD (st .met) j 0
-      unfolding popped
-      popped-met j = refl
 
       popped-cover : Cover st → CoverBut k (setAt st k) (popped st ks)
       unfolding popped

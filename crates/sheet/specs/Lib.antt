@@ -6,4 +6,9 @@ pub mod EncodeLaws
 pub mod AcceptLaws
 pub mod AcceptedLaws
 pub mod Valid
+pub mod BlockLaws
+pub mod RecordLaws
 pub mod LocalLaws
+pub mod Labelled
+pub mod LabelLaws
+pub mod NameLaws
