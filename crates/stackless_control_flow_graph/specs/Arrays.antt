@@ -1,14 +1,14 @@
 -- What the arrays hold that the blocks are worked out in. Assumes nothing.
 use mathlib.Core.Path.{_≡_}
-use mathlib.Core.Bool.{cond}
+use mathlib.Core.Bool.{true, cond}
 use mathlib.Core.List.{List, [], _∷_, _++_, List·Memᴰ}
-use Prim.Native.Nat.{ℕ, _+_, _*_, _≤_, _<_}
+use Prim.Native.Nat.{ℕ, suc, _+_, _*_, _≤_, _<_}
 use lib.Dec.{eqb}
 use lib.ListN.{getD, set, length, take}
 use Rattle.base.specs.Lists.{over}
 use Rattle.base.specs.Refusals.{Accepted}
 use Rattle.stackless_bytecode.specs.declared.Bytecode.{Bytecode}
-use Rattle.stackless_bytecode.specs.Kinds.{fallsThrough, branchDests}
+use Rattle.stackless_bytecode.specs.Kinds.{at, isBranch, fallsThrough, branchDests}
 use Rattle.stackless_bytecode.specs.Successors.{ascending, successors}
 use Rattle.stackless_bytecode.specs.Slots.{Resolved}
 use Rattle.sheet.specs.Layout.{countOf, codeOf}
@@ -52,13 +52,27 @@ markAll marks xs = over (λ m x. set m x 1) marks xs
 pub record Within (n : ℕ) (xs : List ℕ) : Type 0 where
   pub each : (x : ℕ) → List·Memᴰ x xs → x < n
 
--- the successors of each offset
-pub record Going (code : List Bytecode) (goes : List ℕ) : Type 0 where
-  pub each : (k : ℕ) → k < length code → succsIn goes k ≡ successors code k
+-- the successors of each offset below k
+pub record Going (code : List Bytecode) (k : ℕ) (goes : List ℕ) : Type 0 where
+  pub each : (j : ℕ) → j < k → succsIn goes j ≡ successors code j
 
 -- 1 where a block starts
 pub record Marked (code : List Bytecode) (marks : List ℕ) : Type 0 where
   pub each : (k : ℕ) → k < length code → eqb (getD marks k 0) 1 ≡ starts code k
+
+-- ---- the pass over the instructions
+
+-- what is marked once the first k instructions are visited
+pub record Marking (code : List Bytecode) (k : ℕ) (marks : List ℕ) : Type 0 where
+  pub sound : (j : ℕ) → j < length code → getD marks j 0 ≡ 1 → starts code j ≡ true
+  pub entry : getD marks 0 0 ≡ 1
+  pub behind : (j : ℕ) → j < k → suc j < length code → isBranch (at code j) ≡ true → getD marks (suc j) 0 ≡ 1
+  pub named : (j o : ℕ) → j < k → isBranch (at code j) ≡ true → List·Memᴰ o (successors code j) → getD marks o 0 ≡ 1
+
+-- what a step of the pass over the instructions does to both arrays
+pub record Visits (code : List Bytecode) (k : ℕ) (goes marks goes′ marks′ : List ℕ) : Type 0 where
+  pub going : Going code k goes → Going code (k + 1) goes′
+  pub marking : Marking code k marks → Marking code (k + 1) marks′
 
 -- ---- what the code is given: an accepted sheet of n instructions, and the offsets of the labels that it names
 pub record Given (s : List ℕ) (n : ℕ) (targets : List ℕ) : Type 0 where

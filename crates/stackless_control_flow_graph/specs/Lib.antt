@@ -4,3 +4,4 @@ pub mod BlockLaws
 pub mod Arrays
 pub mod NextLaws
 pub mod StartLaws
+pub mod GivenLaws

@@ -20,7 +20,7 @@ use Rattle.stackless_bytecode.specs.Slots.{noLabel, slotAt, Resolved}
 use Rattle.stackless_bytecode.specs.SlotLaws.{Below}
 use Rattle.stackless_control_flow_graph.specs.Blocks.{targets, starts}
 use Rattle.stackless_control_flow_graph.specs.BlockLaws.{Last, Start, succs-start}
-use Rattle.stackless_control_flow_graph.specs.Arrays.{succsBy, noOffset, pairOf, succsIn, putTwo, markAll, Within, Going, Marked}
+use Rattle.stackless_control_flow_graph.specs.Arrays.{succsBy, noOffset, pairOf, succsIn, putTwo, markAll, Within, Going, Marked, Marking}
 
 -- ---- none, one or two by value
 
@@ -117,9 +117,6 @@ succs-within code sound k h = record { each = λ o i. go o (in-succs code k o i)
 
 -- ---- into their places
 
-pub record Going-to (code : List Bytecode) (k : ℕ) (goes : List ℕ) : Type 0 where
-  pub each : (j : ℕ) → j < k → succsIn goes j ≡ successors code j
-
 -- at most two come back as they were put
 pub two-places : (c f s : ℕ) → Within noOffset (take c (f ∷ s ∷ [])) → pairOf (getD (take c (f ∷ s ∷ [])) 0 noOffset) (getD (take c (f ∷ s ∷ [])) 1 noOffset) ≡ take c (f ∷ s ∷ [])
 unfolding pairOf
@@ -131,7 +128,7 @@ two-places (suc (suc c)) f s w =
     ∙ ap (λ (l : List ℕ). f ∷ s ∷ l) (sym (take-nil c))
 
 pub going-more : (code : List Bytecode) (k : ℕ) (goes xs : List ℕ) → 2 * k + 1 < length goes → pairOf (getD xs 0 noOffset) (getD xs 1 noOffset) ≡ successors code k
-    → Going-to code k goes → Going-to code (k + 1) (putTwo goes k xs)
+    → Going code k goes → Going code (k + 1) (putTwo goes k xs)
 going-more code k goes xs room is g = record { each = λ j h. by-eq j k (λ e. here j e) (λ q. other j (omega arith)) }
   where
     a : ℕ
@@ -157,13 +154,6 @@ going-more code k goes xs room is g = record { each = λ j h. by-eq j k (λ e. h
             ∙ getD-set-other goes (2 * k) i (getD xs 0 noOffset) 0 (λ q. omega arith)
 
 -- ---- marks
-
--- what is marked once the first k instructions are visited
-pub record Marking (code : List Bytecode) (k : ℕ) (marks : List ℕ) : Type 0 where
-  pub sound : (j : ℕ) → j < length code → getD marks j 0 ≡ 1 → starts code j ≡ true
-  pub entry : getD marks 0 0 ≡ 1
-  pub behind : (j : ℕ) → j < k → suc j < length code → isBranch (at code j) ≡ true → getD marks (suc j) 0 ≡ 1
-  pub named : (j o : ℕ) → j < k → isBranch (at code j) ≡ true → List·Memᴰ o (successors code j) → getD marks o 0 ≡ 1
 
 mark-kept : (m xs : List ℕ) (j : ℕ) → getD m j 0 ≡ 1 → getD (markAll m xs) j 0 ≡ 1
 unfolding markAll over

@@ -3,8 +3,11 @@ ghost use mathlib.Core.Path.{_≡_};
 ghost use mathlib.Core.List.{_∷_};
 ghost use Prim.Native.Nat.{ℕ, _+_, _*_, _≤_, _<_};
 ghost use lib.ListN.{length, getD};
-ghost use Rattle.stackless_control_flow_graph.specs.Arrays.{noOffset, listOf, putTwo, markAll, Within};
+ghost use Rattle.sheet.specs.Layout.{codeOf};
+ghost use Rattle.stackless_control_flow_graph.specs.Arrays.{noOffset, listOf, putTwo, markAll, Within, Going, Marked, Visits, Given};
 use super::Successors;
+use super::next::by_kind;
+use sheet::reader;
 
 // Stands for no offset.
 pub const NO_OFFSET: u16 = 65535;
@@ -13,6 +16,13 @@ fn wide(x: u16) -> usize
     ensures { λ r. ⌜ r ≡ x ⌝ }
 {
     x as usize
+}
+
+fn narrow(x: usize) -> u16
+    requires { ⌜ x < 65536 ⌝ }
+    ensures { λ r. ⌜ r ≡ x ⌝ }
+{
+    x as u16
 }
 
 fn first_of(e: Successors) -> u16
@@ -59,4 +69,39 @@ fn mark(marks: &mut [u8], next: usize, e: Successors)
     }
     let second = wide(e.second);
     marks[second] = 1;
+}
+
+// The successors of offset k into their places, and the blocks that it starts.
+fn visit(
+    sheet: &[u8],
+    n: usize,
+    targets: &[u16],
+    k: usize,
+    goes: &mut [u16],
+    marks: &mut [u8],
+)
+    requires { ⌜ Given (now sheet) n (now targets) × (k < n) × (2 * n ≤ length (now goes)) × (n < length (now marks)) ⌝ }
+    ensures { λ _. ⌜ Visits (codeOf (now (sheet .entry))) k (now (goes .entry)) (now (marks .entry)) (now (goes .exit)) (now (marks .exit)) ⌝ }
+{
+    let r = reader::instruction_at(sheet, k);
+    let at = 2 * k;
+    let next = k + 1;
+    let e = by_kind(r, targets[at], targets[at + 1], narrow(next));
+    put_two(goes, k, e);
+    if r.is_branch() {
+        mark(marks, next, e);
+    }
+}
+
+// The successors of every offset, and 1 where a block starts: at 0, at the successors of whatever branches, and behind it.
+pub fn visit_all(sheet: &[u8], n: usize, targets: &[u16], goes: &mut [u16], marks: &mut [u8])
+    requires { ⌜ Given (now sheet) n (now targets) × (2 * n ≤ length (now goes)) × (n < length (now marks)) × ((j : ℕ) → getD (now marks) j 0 ≡ 0) ⌝ }
+    ensures { λ _. ⌜ Going (codeOf (now (sheet .entry))) n (now (goes .exit)) × Marked (codeOf (now (sheet .entry))) (now (marks .exit)) ⌝ }
+{
+    marks[0] = 1;
+    let mut k = 0;
+    while k < n {
+        visit(sheet, n, targets, k, goes, marks);
+        k += 1;
+    }
 }
