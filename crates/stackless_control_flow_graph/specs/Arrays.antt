@@ -5,7 +5,7 @@ use mathlib.Core.List.{List, [], _∷_, _++_, List·Memᴰ}
 use Prim.Native.Nat.{ℕ, suc, _+_, _*_, _≤_, _<_}
 use lib.Dec.{eqb}
 use lib.ListN.{getD, set, length, take}
-use Rattle.base.specs.Lists.{over}
+use Rattle.base.specs.Lists.{keep, over}
 use Rattle.base.specs.Refusals.{Accepted}
 use Rattle.stackless_bytecode.specs.declared.Bytecode.{Bytecode}
 use Rattle.stackless_bytecode.specs.Kinds.{at, isBranch, fallsThrough, branchDests}
@@ -14,7 +14,7 @@ use Rattle.stackless_bytecode.specs.Slots.{Resolved}
 use Rattle.sheet.specs.Layout.{countOf, codeOf}
 use Rattle.sheet.specs.Checks.{checkSheet}
 use Rattle.stackless_control_flow_graph.specs.declared.Successors.{Successors}
-use Rattle.stackless_control_flow_graph.specs.Blocks.{starts}
+use Rattle.stackless_control_flow_graph.specs.Blocks.{starts, lowerOf, upperOf}
 
 -- ---- the successors of an offset
 
@@ -59,6 +59,23 @@ pub record Going (code : List Bytecode) (k : ℕ) (goes : List ℕ) : Type 0 whe
 -- 1 where a block starts
 pub record Marked (code : List Bytecode) (marks : List ℕ) : Type 0 where
   pub each : (k : ℕ) → k < length code → eqb (getD marks k 0) 1 ≡ starts code k
+
+-- the offsets below n that are marked
+unfoldable pub markedIn : List ℕ → ℕ → List ℕ
+markedIn marks n = keep n 0 (λ k. eqb (getD marks k 0) 1)
+
+-- the upper of the block of each offset
+pub record Uppers (code : List Bytecode) (uppers : List ℕ) : Type 0 where
+  pub each : (k : ℕ) → k < length code → getD uppers k 0 ≡ upperOf code k
+
+-- the lower of the block of each offset
+pub record Heads (code : List Bytecode) (heads : List ℕ) : Type 0 where
+  pub each : (k : ℕ) → k < length code → getD heads k 0 ≡ lowerOf code k
+
+-- these few more behind the first c: then there are r
+pub record Listing (out : List ℕ) (c : ℕ) (xs out′ : List ℕ) (r : ℕ) : Type 0 where
+  pub front : take r out′ ≡ take c out ++ xs
+  pub count : r ≡ c + length xs
 
 -- ---- the pass over the instructions
 

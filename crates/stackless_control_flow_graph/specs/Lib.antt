@@ -5,3 +5,5 @@ pub mod Arrays
 pub mod NextLaws
 pub mod StartLaws
 pub mod GivenLaws
+pub mod MoreLists
+pub mod OffsetLaws
