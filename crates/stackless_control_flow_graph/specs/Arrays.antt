@@ -14,7 +14,7 @@ use Rattle.stackless_bytecode.specs.Slots.{Resolved}
 use Rattle.sheet.specs.Layout.{countOf, codeOf}
 use Rattle.sheet.specs.Checks.{checkSheet}
 use Rattle.stackless_control_flow_graph.specs.declared.Successors.{Successors}
-use Rattle.stackless_control_flow_graph.specs.Blocks.{starts, lowerOf, upperOf}
+use Rattle.stackless_control_flow_graph.specs.Blocks.{starts, lowers, blocksOf, lowerOf, upperOf}
 
 -- ---- the successors of an offset
 
@@ -76,6 +76,15 @@ pub record Heads (code : List Bytecode) (heads : List ℕ) : Type 0 where
 pub record Listing (out : List ℕ) (c : ℕ) (xs out′ : List ℕ) (r : ℕ) : Type 0 where
   pub front : take r out′ ≡ take c out ++ xs
   pub count : r ≡ c + length xs
+
+-- the arrays of the blocks, of which there are r
+pub record Cut (code : List Bytecode) (n r : ℕ) (goes marks ls uppers : List ℕ) : Type 0 where
+  pub size : length code ≡ n
+  pub going : Going code n goes
+  pub marked : Marked code marks
+  pub front : take r ls ≡ lowers code
+  pub count : r ≡ blocksOf code
+  pub upper : Uppers code uppers
 
 -- ---- the pass over the instructions
 

@@ -2,11 +2,13 @@
 ghost use mathlib.Core.Path.{_≡_};
 ghost use mathlib.Core.Bool.{cond};
 ghost use mathlib.Core.List.{List, [], _∷_, _++_};
-ghost use Prim.Native.Nat.{ℕ, _+_, _≤_, _<_};
+ghost use Prim.Native.Nat.{ℕ, _+_, _*_, _≤_, _<_};
 ghost use lib.Dec.{eqb};
 ghost use lib.ListN.{length, getD, take};
 ghost use Rattle.stackless_bytecode.specs.declared.Bytecode.{Bytecode};
-ghost use Rattle.stackless_control_flow_graph.specs.Arrays.{markedIn, Marked, Uppers, Heads, Listing};
+ghost use Rattle.sheet.specs.Layout.{codeOf};
+ghost use Rattle.stackless_control_flow_graph.specs.Arrays.{markedIn, Marked, Uppers, Heads, Listing, Given, Cut};
+use super::starts::visit_all;
 
 fn narrow(x: usize) -> u16
     requires { ⌜ x < 65536 ⌝ }
@@ -76,4 +78,22 @@ pub fn find_heads(marks: &[u8], n: usize, heads: &mut [u16])
         heads[k] = narrow(head);
         k += 1;
     }
+}
+
+// The successors of every offset, where blocks start, the lowers by offset and the upper of every offset; how many blocks.
+pub fn cut(
+    sheet: &[u8],
+    n: usize,
+    targets: &[u16],
+    goes: &mut [u16],
+    marks: &mut [u8],
+    lowers: &mut [u16],
+    uppers: &mut [u16],
+) -> usize
+    requires { ⌜ Given (now sheet) n (now targets) × (2 * n ≤ length (now goes)) × (n < length (now marks)) × ((j : ℕ) → getD (now marks) j 0 ≡ 0) × (n ≤ length (now lowers)) × (n ≤ length (now uppers)) ⌝ }
+    ensures { λ r. ⌜ Cut (codeOf (now (sheet .entry))) n r (now (goes .exit)) (now (marks .exit)) (now (lowers .exit)) (now (uppers .exit)) ⌝ }
+{
+    visit_all(sheet, n, targets, goes, marks);
+    find_uppers(marks, n, uppers);
+    list_lowers(marks, n, lowers)
 }
