@@ -5,7 +5,8 @@ use mathlib.Core.List.{List, [], _∷_, _++_, List·Memᴰ}
 use Prim.Native.Nat.{ℕ, suc, _+_, _*_, _≤_, _<_}
 use lib.Dec.{eqb}
 use lib.ListN.{getD, set, length, take}
-use Rattle.base.specs.Lists.{keep, over}
+use Rattle.base.specs.Lists.{keep, has, over, firsts}
+use Rattle.base.specs.ListLaws.{Distinct}
 use Rattle.base.specs.Refusals.{Accepted}
 use Rattle.stackless_bytecode.specs.declared.Bytecode.{Bytecode}
 use Rattle.stackless_bytecode.specs.Kinds.{at, isBranch, fallsThrough, branchDests}
@@ -14,7 +15,7 @@ use Rattle.stackless_bytecode.specs.Slots.{Resolved}
 use Rattle.sheet.specs.Layout.{countOf, codeOf}
 use Rattle.sheet.specs.Checks.{checkSheet}
 use Rattle.stackless_control_flow_graph.specs.declared.Successors.{Successors}
-use Rattle.stackless_control_flow_graph.specs.Blocks.{starts, lowers, blocksOf, lowerOf, upperOf}
+use Rattle.stackless_control_flow_graph.specs.Blocks.{starts, lowers, blocksOf, lowerOf, upperOf, keyed, keyOf}
 
 -- ---- the successors of an offset
 
@@ -85,6 +86,48 @@ pub record Cut (code : List Bytecode) (n r : ℕ) (goes marks ls uppers : List �
   pub front : take r ls ≡ lowers code
   pub count : r ≡ blocksOf code
   pub upper : Uppers code uppers
+
+-- ---- keys
+
+-- the key of offset o where `ks` have keys, and 0 where it has none
+unfoldable pub keyIn : List ℕ → ℕ → ℕ
+keyIn ks o = cond (has o ks) (keyOf ks o) 0
+
+-- the first c of `by` have keys, and each offset has its own in `key`
+pub record Keys (key by : List ℕ) (c : ℕ) : Type 0 where
+  pub each : (o : ℕ) → o < length key → getD key o 0 ≡ keyIn (take c by) o
+  pub once : Distinct (take c by)
+  pub within : Within (length key) (take c by)
+  pub inside : c ≤ length by
+
+-- keys for these offsets, in their order, to those that have none yet
+pub record Gives (xs key by : List ℕ) (c : ℕ) (key′ by′ : List ℕ) (r : ℕ) : Type 0 where
+  pub keys : Keys key′ by′ r
+  pub front : take r by′ ≡ firsts (take c by) xs
+
+-- the block from l to u and its successors are offsets below n
+pub record Near (n : ℕ) (goes : List ℕ) (l u : ℕ) : Type 0 where
+  pub self : l < n
+  pub first : (getD goes (2 * u) 0 ≡ noOffset → ⊥) → getD goes (2 * u) 0 < n
+  pub second : (getD goes (2 * u) 0 ≡ noOffset → ⊥) → (getD goes (2 * u + 1) 0 ≡ noOffset → ⊥) → getD goes (2 * u + 1) 0 < n
+
+-- what takes keys at the block from l on: its successors, then the block
+unfoldable pub takers : List ℕ → List ℕ → ℕ → List ℕ
+takers goes uppers l = succsIn goes (getD uppers l 0) ++ (l ∷ [])
+
+-- the arrays have all that is asked of the m blocks, and its offsets are below n
+pub record Ready (goes ls uppers : List ℕ) (m n : ℕ) : Type 0 where
+  pub blocks : m ≤ length ls
+  pub lower : (b : ℕ) → b < m → getD ls b 0 < n
+  pub upper : (b : ℕ) → b < m → getD ls b 0 < length uppers
+  pub places : (b : ℕ) → b < m → 2 * getD uppers (getD ls b 0) 0 + 1 < length goes
+  pub next : (b : ℕ) → b < m → Within n (succsIn goes (getD uppers (getD ls b 0) 0))
+
+-- the keys of all r blocks: the lowers in the order of their keys, and the key of each; nothing else has one
+pub record Numbered (code : List Bytecode) (key order : List ℕ) (r : ℕ) : Type 0 where
+  pub front : take r order ≡ keyed code
+  pub count : r ≡ blocksOf code
+  pub each : (o : ℕ) → o < length key → getD key o 0 ≡ keyIn (keyed code) o
 
 -- ---- the pass over the instructions
 

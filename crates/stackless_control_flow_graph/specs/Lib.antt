@@ -7,3 +7,5 @@ pub mod StartLaws
 pub mod GivenLaws
 pub mod MoreLists
 pub mod OffsetLaws
+pub mod KeyLaws
+pub mod FlowLaws
