@@ -30,7 +30,7 @@ use Rattle.livevar_analysis.specs.LiveLaws.{transfer-lt}
 use Rattle.livevar_analysis.specs.Analysis.{outOf, analyzeFunction}
 use Rattle.livevar_analysis.specs.AnalysisLaws.{graph, narrow, bound-fits}
 use Rattle.livevar_analysis.specs.Term3.{keys-blocks}
-use Rattle.livevar_analysis.specs.Engine.{Analyzable, leads, given, stateAt, CanHand, HandedOn}
+use Rattle.livevar_analysis.specs.Engine.{Analyzable, Tables, leads, given, stateAt, CanHand, HandedOn, CanStep, Begun, CanRun, Solved}
 
 -- ---- how many keys there are, and how many are taken
 
@@ -163,3 +163,79 @@ module _ (code : List Bytecode) (locals : ℕ) (ok : Analyzable code locals) whe
     runs-turn sets₁ met₁ q₁ next₁ h =
         subst (Runs code locals) (sym (h .state ∙ ap₂ (λ (m : ℕ) (s : State masks). over (receive m) s (leads code k)) (ap (out k) (sym own-is)) popped-is))
         (runs-step (stateAt n sets met q c) k (listOf q next) waits r)
+
+-- ---- the loop over the slices
+
+module _ (kills gens assigns preds starts lows ups sets₀ met₀ q₀ : List ℕ) (c₀ : Cursor) where
+  -- for whatever code the tables are, the slices have a state of its run
+  pub record Held (sets met q : List ℕ) (c : Cursor) : Type 0 where
+    pub runs : (code : List Bytecode) (locals : ℕ) → Begun code locals kills gens assigns preds starts lows ups sets₀ met₀ q₀ c₀ → Runs code locals (stateAt (2 + length (keyed code)) sets met q c)
+    pub list-fits : c .head + c .len ≤ length q
+    pub sets-kept : length sets ≡ length sets₀
+    pub met-kept : length met ≡ length met₀
+    pub q-kept : length q ≡ length q₀
+
+  module _ (can : CanRun kills gens assigns preds starts lows ups sets₀ met₀ q₀ c₀) where
+    pub held-begin : Held sets₀ met₀ q₀ c₀
+    held-begin = record {
+      runs = λ code locals b. subst (Runs code locals) (sym (b .state)) (runs-begin code locals (b .analyzable));
+      list-fits = can .begun .list-fits;
+      sets-kept = refl;
+      met-kept = refl;
+      q-kept = refl;
+    }
+
+    module _ (sets met q : List ℕ) (c : Cursor) (h : Held sets met q c) (next : Cursor) (k : ℕ) (took : Took q c k next) where
+      within : next .head + next .len ≤ length q
+      within = omega (arith, took .same-end, h .list-fits)
+
+      -- what `step` requires
+      pub held-asks : CanStep kills gens assigns preds starts lows ups sets met q next k
+      held-asks =
+          let a = can .begun .analyzable in
+          let nodes : length met ≡ 2 + length (keyed (can .code)) = h .met-kept ∙ can .begun .nodes in
+          let fits : length met * setWords ≤ length sets = omega (arith, can .begun .sets-fit, h .met-kept, h .sets-kept) in
+          let long : length q ≡ maxTaken = h .q-kept ∙ can .begun .list-long in
+          let r = h .runs (can .code) (can .locals) (can .begun) in
+          record {
+            code = can .code;
+            sound = a .sound;
+            tables = can .begun .tables;
+            nodes = nodes;
+            few = omega (arith, keys-few (can .code) (a .sound), a .few);
+            inside = omega (arith, key-inside (can .code) (can .locals) a sets met q c next k took fits nodes long within r);
+            hands = subst (λ (n : ℕ). CanHand n sets met q next (leads (can .code) k) (given (can .code) sets k)) (sym nodes) (runs-hands (can .code) (can .locals) a sets met q c next k took fits nodes long within r);
+          }
+
+      module _ (sets₁ met₁ q₁ : List ℕ) (next₁ : Cursor)
+          (stepped : (code : List Bytecode) → Sound code → Tables code kills gens assigns preds starts lows ups → length met ≡ 2 + length (keyed code)
+          → HandedOn (length met) sets met q next (leads code k) (given code sets k) sets₁ met₁ q₁ next₁) where
+        -- the head has moved by one
+        handed : HandedOn (length met) sets met q next (leads (can .code) k) (given (can .code) sets k) sets₁ met₁ q₁ next₁
+        handed = stepped (can .code) (can .begun .analyzable .sound) (can .begun .tables) (h .met-kept ∙ can .begun .nodes)
+
+        pub held-head : next₁ .head ≡ c .head + 1
+        held-head = handed .same-head ∙ took .next-head
+
+        pub held-more : length sets₁ ≡ length sets → length met₁ ≡ length met → length q₁ ≡ length q → Held sets₁ met₁ q₁ next₁
+        held-more ls lm lq = record {
+          runs = more;
+          list-fits = omega (arith, handed .list-fits);
+          sets-kept = ls ∙ h .sets-kept;
+          met-kept = lm ∙ h .met-kept;
+          q-kept = lq ∙ h .q-kept;
+        }
+          where
+            more : (code : List Bytecode) (locals : ℕ) → Begun code locals kills gens assigns preds starts lows ups sets₀ met₀ q₀ c₀ → Runs code locals (stateAt (2 + length (keyed code)) sets₁ met₁ q₁ next₁)
+            more code locals b =
+                let nodes : length met ≡ 2 + length (keyed code) = h .met-kept ∙ b .nodes in
+                runs-turn code locals (b .analyzable) sets met q c next k took (omega (arith, b .sets-fit, h .met-kept, h .sets-kept)) nodes (h .q-kept ∙ b .list-long) within (h .runs code locals b) sets₁ met₁ q₁ next₁
+                (subst (λ (n : ℕ). HandedOn n sets met q next (leads code k) (given code sets k) sets₁ met₁ q₁ next₁) nodes (stepped code (b .analyzable .sound) (b .tables) nodes))
+
+    -- the end: the list is empty
+    pub held-done : (sets met q : List ℕ) (c : Cursor) → Held sets met q c → listOf q c ≡ []
+        → (code : List Bytecode) (locals : ℕ) → Begun code locals kills gens assigns preds starts lows ups sets₀ met₀ q₀ c₀ → Solved code locals (c .head) sets
+    unfolding stateOf
+    held-done sets met q c h e code locals b =
+        let is = runs-done code locals (b .analyzable) (stateAt (2 + length (keyed code)) sets met q c) e (h .runs code locals b) in
+        record { taken = ap (λ (s : State masks). s .taken) (sym is); final = ap (λ (s : State masks). s .sets) (sym is) }
