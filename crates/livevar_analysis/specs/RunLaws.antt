@@ -1,25 +1,27 @@
 -- The main loop of the engine is the definition's run: its invariant, a turn, and its end. Assumes nothing.
 use mathlib.Core.Path.{_≡_, refl, sym, ap, ap₂, _∙_, subst}
-use mathlib.Core.Bool.{Bool, true, false, cond}
-use mathlib.Core.List.{List, [], _∷_, List·Memᴰ, List·Memᴰ·head}
+use mathlib.Core.Bool.{Bool, true, cond}
+use mathlib.Core.List.{List, [], _∷_, _++_, List·Memᴰ}
 use Prim.Native.Nat.{ℕ, zero, suc, _+_, _-_, _*_, _^_, _≤_, _<_}
 use native.Mathlib.Nat.{mul-le-mul}
 use native.Mathlib.Numerals.{add-one}
 use native.Mathlib.Omega.{arith}
 use lib.Count.{ones, ones-ones}
-use lib.ListN.{getD, length, take, replicate}
+use lib.ListN.{getD, set, length, take, replicate, length-set, length-replicate}
+use lib.Seq.{ext-getD}
 use lib.Pow.{ones-lt}
 use Rattle.base.specs.Sizes.{setWords, maxLocals, maxInstructions, takenBound, maxTaken}
 use Rattle.base.specs.Lists.{over, keep}
-use Rattle.base.specs.ListLaws.{by-test, in-take, getD-in}
+use Rattle.base.specs.ListLaws.{by-test, in-take, getD-in, copies-at}
 use Rattle.dataflow_domains.specs.MaskLaws.{sub-full, sub-lt}
 use Rattle.dataflow_domains.specs.Sets.{setAt, setsOf}
+use Rattle.dataflow_domains.specs.SliceLaws.{masks-zeros}
 use Rattle.dataflow_analysis.specs.declared.Cursor.{Cursor}
 use Rattle.dataflow_analysis.specs.Worklist.{State, begin, receive, news, popped, step, run}
 use Rattle.dataflow_analysis.specs.WorklistLaws as general
 use Rattle.dataflow_analysis.specs.MaskList.{masks, mask-laws, mask-size, met-inside}
-use Rattle.dataflow_analysis.specs.Queue.{listOf, stateOf}
-use Rattle.dataflow_analysis.specs.QueueLaws.{Took, took-popped, run-more, run-done}
+use Rattle.dataflow_analysis.specs.Queue.{listOf, Put, stateOf}
+use Rattle.dataflow_analysis.specs.QueueLaws.{list-none, Took, took-popped, run-more, run-done}
 use Rattle.dataflow_analysis.specs.ReceiptLaws.{at-node}
 use Rattle.stackless_bytecode.specs.declared.Bytecode.{Bytecode}
 use Rattle.stackless_bytecode.specs.SuccessorLaws.{Sound}
@@ -30,7 +32,7 @@ use Rattle.livevar_analysis.specs.LiveLaws.{transfer-lt}
 use Rattle.livevar_analysis.specs.Analysis.{outOf, analyzeFunction}
 use Rattle.livevar_analysis.specs.AnalysisLaws.{graph, narrow, bound-fits}
 use Rattle.livevar_analysis.specs.Term3.{keys-blocks}
-use Rattle.livevar_analysis.specs.Engine.{Analyzable, Tables, leads, given, stateAt, CanHand, HandedOn, CanStep, Begun, CanRun, Solved}
+use Rattle.livevar_analysis.specs.Engine.{Analyzable, Tables, leads, given, stateAt, CanHand, HandedOn, CanStep, Begun, CanRun, Input, Solved}
 
 -- ---- how many keys there are, and how many are taken
 
@@ -239,3 +241,34 @@ module _ (kills gens assigns preds starts lows ups sets₀ met₀ q₀ : List �
     held-done sets met q c h e code locals b =
         let is = runs-done code locals (b .analyzable) (stateAt (2 + length (keyed code)) sets met q c) e (h .runs code locals b) in
         record { taken = ap (λ (s : State masks). s .taken) (sym is); final = ap (λ (s : State masks). s .sets) (sym is) }
+
+-- ---- the beginning: all is 0, and key 1 is met and waits
+
+module _ (code : List Bytecode) (locals : ℕ) (kills gens assigns preds starts lows ups sets met q : List ℕ) (input : Input code locals kills gens assigns preds starts lows ups sets met q)
+    (none c : Cursor) (q₁ : List ℕ) (first : none .head ≡ 0) (empty : none .len ≡ 0) (put : Put q none 1 q₁ c) (long : length q₁ ≡ length q) where
+  no-sets : setsOf (2 + length (keyed code)) sets ≡ replicate (2 + length (keyed code)) 0
+  unfolding setsOf
+  no-sets = masks-zeros 64 setWords (2 + length (keyed code)) sets (input .sets-blank)
+
+  none-met : met ≡ replicate (2 + length (keyed code)) 0
+  none-met =
+      ext-getD 0 met (replicate (2 + length (keyed code)) 0) (input .nodes ∙ sym (length-replicate {A = ℕ} (2 + length (keyed code)) 0))
+      (λ i h. input .met-blank i ∙ sym (copies-at (2 + length (keyed code)) i 0))
+
+  state-begun : stateAt (2 + length (keyed code)) sets (set met 1 1) q₁ c ≡ begin (2 + length (keyed code)) 1
+  unfolding stateOf begin
+  state-begun =
+      let list : listOf q₁ c ≡ 1 ∷ [] = put .queued ∙ ap (λ (l : List ℕ). l ++ (1 ∷ [])) (list-none q none empty) in
+      let start : c .head ≡ 0 = put .same-head ∙ first in
+      rw (no-sets, none-met, list, start)
+
+  pub begun : Begun code locals kills gens assigns preds starts lows ups sets (set met 1 1) q₁ c
+  begun = record {
+    analyzable = input .analyzable;
+    tables = input .tables;
+    nodes = length-set met 1 1 ∙ input .nodes;
+    sets-fit = omega (arith, length-set met 1 1, input .sets-fit);
+    list-long = long ∙ input .list-long;
+    list-fits = omega (arith, put .same-head, put .longer, long, input .list-long);
+    state = state-begun;
+  }

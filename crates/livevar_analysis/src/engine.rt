@@ -17,13 +17,7 @@ use dataflow_analysis::receive_at;
 use dataflow_domains::LiveVarState;
 
 // Rule k of the slices, applied to the set m after it.
-fn apply(
-    kills: &[u64],
-    gens: &[u64],
-    assigns: &[u8],
-    k: usize,
-    m: LiveVarState,
-) -> LiveVarState
+fn apply(kills: &[u64], gens: &[u64], assigns: &[u8], k: usize, m: LiveVarState) -> LiveVarState
     requires { ⌜ RuleRoom (k + 1) (now kills) (now gens) (now assigns) ⌝ }
     ensures { λ r. ⌜ mask r ≡ ruleAt (now (kills .entry)) (now (gens .entry)) (now (assigns .entry)) k (mask m) ⌝ }
 {
@@ -178,7 +172,18 @@ fn run(
         match c.take(q) {
             Taken::Key(k, next) => {
                 c = step(
-                    kills, gens, assigns, preds, starts, lows, ups, sets, met, q, next, k,
+                    kills,
+                    gens,
+                    assigns,
+                    preds,
+                    starts,
+                    lows,
+                    ups,
+                    sets,
+                    met,
+                    q,
+                    next,
+                    k,
                 );
             }
             Taken::Empty => {
@@ -186,4 +191,38 @@ fn run(
             }
         }
     }
+}
+
+// The sets of all keys, in `sets`, and how many keys were taken. Key 1 is met and waits first.
+pub fn solve(
+    kills: &[u64],
+    gens: &[u64],
+    assigns: &[u8],
+    preds: &[u16],
+    starts: &[u16],
+    lows: &[u16],
+    ups: &[u16],
+    sets: &mut [u64],
+    met: &mut [u8],
+    q: &mut [u16],
+) -> u32
+    requires { ⌜ CanSolve (now kills) (now gens) (now assigns) (now preds) (now starts) (now lows) (now ups) (now sets) (now met) (now q) ⌝ }
+    ensures { λ r. ⌜ ((code : List Bytecode) (locals : ℕ) → Input code locals (now (kills .entry)) (now (gens .entry)) (now (assigns .entry)) (now (preds .entry)) (now (starts .entry)) (now (lows .entry)) (now (ups .entry)) (now (sets .entry)) (now (met .entry)) (now (q .entry)) → Solved code locals r (now (sets .exit))) ⌝ }
+{
+    let none = Cursor::new();
+    let start = none.put(q, 1);
+    met[1] = 1;
+    run(
+        kills,
+        gens,
+        assigns,
+        preds,
+        starts,
+        lows,
+        ups,
+        sets,
+        met,
+        q,
+        start,
+    )
 }

@@ -10,11 +10,6 @@ use native.Mathlib.Omega.{arith}
 use borrow.Author.Needs.{needs}
 use Rattle.livevar_analysis.proofs.engine.out_of.Statement.{statement}
 use Rattle.livevar_analysis.proofs.engine.out_of.Tie as tie
-use Rattle.livevar_analysis.proofs.engine.out_of.Reads as reads
-use Rattle.livevar_analysis.proofs.engine.out_of.Lts as lts
-use Rattle.dataflow_domains.proofs.LiveVarState.load.Reads as load-reads
-use Rattle.livevar_analysis.proofs.engine.execute_block.Reads as execute-block-reads
-use Rattle.livevar_analysis.proofs.engine.wide.Reads as wide-reads
 
 wide-requires : tie.Need-wide-requires
 wide-requires c κs = search needs

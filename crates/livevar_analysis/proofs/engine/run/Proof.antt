@@ -9,10 +9,6 @@ use borrow.Author.Needs.{needs}
 use native.Mathlib.Omega.{arith}
 use Rattle.livevar_analysis.proofs.engine.run.Statement.{statement}
 use Rattle.livevar_analysis.proofs.engine.run.Tie as tie
-use Rattle.livevar_analysis.proofs.engine.run.Reads as reads
-use Rattle.livevar_analysis.proofs.engine.run.Lts as lts
-use Rattle.dataflow_analysis.proofs.Cursor.take.Reads as take-reads
-use Rattle.livevar_analysis.proofs.engine.step.Reads as step-reads
 
 abbrev Inv-loop : tie.InvT-loop
 Inv-loop kills gens assigns preds starts lows ups sets₀ met₀ q₀ c₀ sets met q c = Held kills gens assigns preds starts lows ups sets₀ met₀ q₀ c₀ sets met q c
