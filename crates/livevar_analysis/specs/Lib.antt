@@ -12,3 +12,5 @@ pub mod Rules
 pub mod DecodeLaws
 pub mod InputLaws
 pub mod EngineLaws
+pub mod Output
+pub mod OutputLaws

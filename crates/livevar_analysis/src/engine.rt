@@ -10,7 +10,7 @@ ghost use Rattle.livevar_analysis.specs.Rules.{ruleAt, Ruled, RuleRoom};
 use dataflow_domains::LiveVarState;
 
 // Rule k of the slices, applied to the set m after it.
-fn apply(
+pub fn apply(
     kills: &[u64],
     gens: &[u64],
     assigns: &[u8],
