@@ -8,4 +8,5 @@ pub mod JoinLaws
 pub mod PartLaws
 pub mod CopyLaws
 pub mod WriteLaws
+pub mod PutLaws
 pub mod ByteLaws

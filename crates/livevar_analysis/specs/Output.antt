@@ -12,7 +12,6 @@ use Rattle.dataflow_domains.specs.Sets.{setAt, setsOf}
 use Rattle.stackless_bytecode.specs.declared.Bytecode.{Bytecode}
 use Rattle.stackless_control_flow_graph.specs.Blocks.{starts, lowerOf, keyed, keyOf}
 use Rattle.livevar_analysis.specs.Analysis.{LiveVarInfo, infoOf}
-use Rattle.livevar_analysis.specs.Rules.{Ruled, RuleRoom}
 
 -- ---- the sets of each instruction
 

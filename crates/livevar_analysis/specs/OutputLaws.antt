@@ -2,21 +2,23 @@
 use mathlib.Core.Path.{_≡_, refl, sym, ap, ap₂, _∙_, subst}
 use mathlib.Core.Logic.{inl, inr}
 use mathlib.Core.Bool.{Bool, true, false, cond, _||_}
-use mathlib.Core.List.{List, [], _∷_, _++_, append-nil, append-assoc}
-use Prim.Native.Nat.{ℕ, zero, suc, _+_, _-_, _*_, _/_, _^_, _≤_, _<_}
-use native.Mathlib.Nat.{zero-add, mul-suc, lt-of-lt-of-le}
+use mathlib.Core.List.{List, _++_, append-assoc}
+use Prim.Native.Nat.{ℕ, suc, _+_, _-_, _*_, _^_, _≤_, _<_}
+use native.Mathlib.Nat.{zero-add, lt-of-lt-of-le}
 use native.Mathlib.Numerals.{add-one}
 use native.Mathlib.Omega.{arith}
 use borrow.Author.Tests.{eq-eqb, ne-eqb}
 use lib.Dec.{eqb}
-use lib.ListN.{getD, length, take, drop, length-append, length-drop, drop-of-length-le, take-append-drop}
-use lib.Pow.{pow-pos, pow-mono, pow-add}
-use lib.Seq.{ext-getD, take-at, drop-at, take-take, drop-drop, length-take-le, take-append-le}
+use lib.ListN.{getD, length, take, drop, length-append, take-append-drop}
+use lib.Pow.{pow-pos, pow-mono}
+use lib.Seq.{ext-getD, take-at, drop-at}
 use Rattle.base.specs.Sizes.{setBytes, setWords, maxLocals}
 use Rattle.base.specs.Lists.{tab, gather}
 use Rattle.base.specs.Bytes.{number, part, bytesOf}
 use Rattle.base.specs.ListLaws.{by-eq, by-test, getD-in, getD-tab, length-tab}
 use Rattle.base.specs.PartLaws.{chunk}
+use Rattle.base.specs.WriteLaws.{part-behind}
+use Rattle.base.specs.ByteLaws.{number-bytes}
 use Rattle.base.specs.Refusals.{Accepted}
 use Rattle.dataflow_domains.specs.MaskLaws.{sub-refl, sub-lt, sub-full}
 use Rattle.dataflow_domains.specs.Sets.{setAt, setsOf}
@@ -33,10 +35,10 @@ use Rattle.stackless_control_flow_graph.specs.BlockLaws.{Last, lower-next}
 use Rattle.livevar_analysis.specs.Live.{execute, Post}
 use Rattle.livevar_analysis.specs.LiveLaws.{transfer-lt}
 use Rattle.livevar_analysis.specs.Term3.{term3}
-use Rattle.livevar_analysis.specs.Analysis.{LiveVarInfo, noInfo, analyzeFunction, analyze, executeAll, restOf, infoOf, liveBytes}
+use Rattle.livevar_analysis.specs.Analysis.{LiveVarInfo, noInfo, analyzeFunction, analyze, executeAll, infoOf, liveBytes}
 use Rattle.livevar_analysis.specs.AnalysisLaws.{sidesBy, behind, rest-is, behind-last, behind-mid}
 use Rattle.livevar_analysis.specs.Rules.{ruleAt, Ruled}
-use Rattle.livevar_analysis.specs.Output.{infoBy, infosBy, sideBytes, infoIn, infosOf, isEnd, afterBy, BlockRoom, Blocked}
+use Rattle.livevar_analysis.specs.Output.{infoBy, infosBy, sideBytes, infoIn, infosOf, isEnd, afterBy, Blocked}
 
 -- ---- the set after an instruction
 
@@ -89,25 +91,6 @@ module _ (code : List Bytecode) (ms : List ℕ) where
 
 -- ---- what is written, from the last instruction to the first
 
--- two parts of n fill a slice of twice as many
-pub fill-two : (n : ℕ) (old x y u v : List ℕ) → length old ≡ 2 * n → length u ≡ n → x ≡ u → y ≡ v
-    → take n (x ++ drop n old) ++ (y ++ drop n (drop n (x ++ drop n old))) ≡ u ++ v
-fill-two n old x y u v l e p q =
-    let none : drop n (drop n old) ≡ [] = drop-of-length-le (drop n old) {i = n} (omega (arith, length-drop n old)) in
-    ap₂ (λ (a b : List ℕ). take n (a ++ drop n old) ++ (b ++ drop n (drop n (a ++ drop n old)))) p q
-    ∙ ap₂ (λ (a b : List ℕ). a ++ (v ++ drop n b)) (take-at u (drop n old) n e) (drop-at u (drop n old) n e)
-    ∙ ap (λ (r : List ℕ). u ++ (v ++ r)) none ∙ ap (λ (r : List ℕ). u ++ r) (append-nil v)
-
--- a part a .. e of a slice whose front to e is as it was is lent, and comes back as blk
-part-behind : (old rest blk out : List ℕ) (a e : ℕ) → a ≤ e → e ≤ length old → out ≡ take e old ++ rest
-    → take a out ++ (blk ++ drop (e - a) (drop a out)) ≡ take a old ++ (blk ++ rest)
-part-behind old rest blk out a e h l q =
-    let size : a + (e - a) ≡ e = omega arith in
-    let front : length (take e old) ≡ e = length-take-le e old l in
-    ap (λ (x : List ℕ). take a x ++ (blk ++ drop (e - a) (drop a x))) q
-    ∙ ap₂ (λ (x y : List ℕ). x ++ (blk ++ y)) (take-append-le a (take e old) rest (omega arith) ∙ take-take a e old h)
-    (drop-drop (e - a) a (take e old ++ rest) ∙ ap (λ (n : ℕ). drop n (take e old ++ rest)) size ∙ drop-at (take e old) rest e front)
-
 module _ (code : List Bytecode) (ms old : List ℕ) where
   -- the sets of the instructions from k on are written, and m is the set before k
   pub record Written (k m : ℕ) (out : List ℕ) : Type 0 where
@@ -133,10 +116,10 @@ module _ (code : List Bytecode) (ms old : List ℕ) where
       let rest = drop (2 * setBytes * length code) old in
       let both : before ≡ beforeOf code ms j = eb ∙ ap (execute (at code j)) ea in
       let step : sideBytes before after ++ liveBytes (tab (length code - k) k (infoBy code ms)) ≡ liveBytes (tab (length code - j) j (infoBy code ms)) =
-          ap₂ (λ (b a : ℕ). sideBytes b a ++ liveBytes (tab (length code - k) k (infoBy code ms))) both ea
-          ∙ ap (λ (x : LiveVarInfo). sideBytes (x .before) (x .after) ++ liveBytes (tab (length code - k) k (infoBy code ms))) (sym (info-is code ms j (omega arith)))
-          ∙ ap (λ (i : ℕ). sideBytes (infoBy code ms j .before) (infoBy code ms j .after) ++ liveBytes (tab (length code - k) i (infoBy code ms))) s
-          ∙ ap (λ (n : ℕ). liveBytes (tab n j (infoBy code ms))) (sym size) in
+      ap₂ (λ (b a : ℕ). sideBytes b a ++ liveBytes (tab (length code - k) k (infoBy code ms))) both ea
+      ∙ ap (λ (x : LiveVarInfo). sideBytes (x .before) (x .after) ++ liveBytes (tab (length code - k) k (infoBy code ms))) (sym (info-is code ms j (omega arith)))
+      ∙ ap (λ (i : ℕ). sideBytes (infoBy code ms j .before) (infoBy code ms j .after) ++ liveBytes (tab (length code - k) i (infoBy code ms))) s
+      ∙ ap (λ (n : ℕ). liveBytes (tab n j (infoBy code ms))) (sym size) in
       record {
         here = λ i. both;
         is = part-behind old (liveBytes (tab (length code - k) k (infoBy code ms)) ++ rest) (sideBytes before after) out (2 * setBytes * j) e (omega arith) (omega arith) (w .is ∙ ap (λ (n : ℕ). take n old ++ (liveBytes (tab (length code - k) k (infoBy code ms)) ++ rest)) end)
@@ -151,8 +134,8 @@ module _ (code : List Bytecode) (ms old : List ℕ) where
       let j = k - 1 in
       let next : k ≡ suc j = omega arith in
       let after : a ≡ afterOf code ms j =
-          ea ∙ ap (λ (x : ℕ). afterBy marks keys sets x j m) size
-          ∙ after-is code ms marks keys sets known j m (omega arith) (λ i. w .here (omega arith) ∙ ap (beforeOf code ms) next) in
+      ea ∙ ap (λ (x : ℕ). afterBy marks keys sets x j m) size
+      ∙ after-is code ms marks keys sets known j m (omega arith) (λ i. w .here (omega arith) ∙ ap (beforeOf code ms) next) in
       let before : b ≡ execute (at code j) a = eb ∙ ruled .each j a (omega arith) in
       subst (λ (x : List ℕ). Written j b (take (2 * setBytes * j) out ++ (x ++ drop (2 * setBytes * j + 2 * setBytes - 2 * setBytes * j) (drop (2 * setBytes * j) out)))) (sym q)
       (written-more j b a (2 * setBytes * j + 2 * setBytes) next refl (omega arith) (omega arith) after before w)
@@ -170,13 +153,6 @@ unfolding infosBy infoBy analyze
 infos-live code locals = refl
 
 -- ---- what is written is read back
-
-number-bytes : (n x : ℕ) → x < 2 ^ (8 * n) → number (bytesOf n x) ≡ x
-unfolding number bytesOf
-number-bytes zero x h = omega arith
-number-bytes (suc n) x h =
-    let wide : 2 ^ (8 * suc n) ≡ 2 ^ (8 * n) * 256 = ap (λ (k : ℕ). 2 ^ k) (mul-suc 8 n) ∙ pow-add 2 (8 * n) 8 in
-    omega (arith, number-bytes n (x / 256) (omega arith))
 
 -- every set is within the width
 pub record Narrow (xs : List LiveVarInfo) : Type 0 where

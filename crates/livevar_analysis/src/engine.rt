@@ -10,13 +10,7 @@ ghost use Rattle.livevar_analysis.specs.Rules.{ruleAt, Ruled, RuleRoom};
 use dataflow_domains::LiveVarState;
 
 // Rule k of the slices, applied to the set m after it.
-pub fn apply(
-    kills: &[u64],
-    gens: &[u64],
-    assigns: &[u8],
-    k: usize,
-    m: LiveVarState,
-) -> LiveVarState
+pub fn apply(kills: &[u64], gens: &[u64], assigns: &[u8], k: usize, m: LiveVarState) -> LiveVarState
     requires { ⌜ RuleRoom (k + 1) (now kills) (now gens) (now assigns) ⌝ }
     ensures { λ r. ⌜ mask r ≡ ruleAt (now (kills .entry)) (now (gens .entry)) (now (assigns .entry)) k (mask m) ⌝ }
 {

@@ -28,7 +28,14 @@ fn ends(marks: &[u8], n: usize, k: usize) -> bool
 }
 
 // The set after instruction k of n: at the end of a block that of the block's key, else m, the set before the next instruction.
-fn after_of(marks: &[u8], keys: &[u16], sets: &[u64], n: usize, k: usize, m: LiveVarState) -> LiveVarState
+fn after_of(
+    marks: &[u8],
+    keys: &[u16],
+    sets: &[u64],
+    n: usize,
+    k: usize,
+    m: LiveVarState,
+) -> LiveVarState
     requires { ⌜ BlockRoom n (now marks) (now keys) (now sets) × (k < n) ⌝ }
     ensures { λ r. ⌜ mask r ≡ afterBy (now (marks .entry)) (now (keys .entry)) (now (sets .entry)) n k (mask m) ⌝ }
 {

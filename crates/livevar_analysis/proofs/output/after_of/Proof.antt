@@ -8,10 +8,6 @@ use native.Mathlib.Omega.{arith}
 use borrow.Author.Needs.{needs}
 use Rattle.livevar_analysis.proofs.output.after_of.Statement.{statement}
 use Rattle.livevar_analysis.proofs.output.after_of.Tie as tie
-use Rattle.livevar_analysis.proofs.output.after_of.Reads as reads
-use Rattle.livevar_analysis.proofs.output.after_of.Lts as lts
-use Rattle.dataflow_domains.proofs.LiveVarState.load.Reads as load-reads
-use Rattle.livevar_analysis.proofs.output.ends.Reads as ends-reads
 
 ends-requires : tie.Need-ends-requires
 ends-requires c κs = search needs

@@ -1,12 +1,9 @@
 -- `livevar_analysis::output::ends` meets its contract. Assumes nothing.
 use Prim.Native.Nat.{_+_}
 use borrow.Author.Tests.{eq-eqb, ne-eqb}
-use native.Mathlib.Omega.{arith}
 use borrow.Author.Needs.{needs}
 use Rattle.livevar_analysis.proofs.output.ends.Statement.{statement}
 use Rattle.livevar_analysis.proofs.output.ends.Tie as tie
-use Rattle.livevar_analysis.proofs.output.ends.Reads as reads
-use Rattle.livevar_analysis.proofs.output.ends.Lts as lts
 
 add-if1 : tie.Need-add-if1
 add-if1 c = search needs

@@ -1,19 +1,12 @@
 -- `livevar_analysis::output::put_info` meets its contract. Assumes nothing.
-use mathlib.Core.Path.{_≡_}
-use mathlib.Core.List.{[]}
-use lib.ListN.{drop, length-drop, drop-of-length-le}
 use Rattle.base.specs.Sizes.{setBytes}
 use Rattle.base.specs.Bytes.{bytesOf}
 use Rattle.dataflow_domains.specs.Sets.{mask}
 use Rattle.dataflow_domains.specs.ByteLaws.{bytes-length}
-use Rattle.livevar_analysis.specs.OutputLaws.{fill-two}
-use native.Mathlib.Omega.{arith}
+use Rattle.base.specs.WriteLaws.{fill-two}
 use borrow.Author.Needs.{needs}
 use Rattle.livevar_analysis.proofs.output.put_info.Statement.{statement}
 use Rattle.livevar_analysis.proofs.output.put_info.Tie as tie
-use Rattle.livevar_analysis.proofs.output.put_info.Reads as reads
-use Rattle.livevar_analysis.proofs.output.put_info.Lts as lts
-use Rattle.dataflow_domains.proofs.LiveVarState.store_bytes.Reads as store-bytes-reads
 
 sub-store-bytes : tie.Need-sub-store-bytes
 sub-store-bytes c = search needs

@@ -2,8 +2,8 @@
 -- Assumes nothing.
 use mathlib.Core.Path.{_≡_, refl, sym, ap, _∙_}
 use mathlib.Core.List.{List, _++_}
-use Prim.Native.Nat.{ℕ, suc, _+_, _-_, _*_, _≤_}
-use lib.ListN.{length, take, drop}
+use Prim.Native.Nat.{ℕ, _*_, _≤_}
+use lib.ListN.{length, drop}
 use Rattle.base.specs.Sizes.{setBytes}
 use Rattle.dataflow_domains.specs.Sets.{mask}
 use Rattle.stackless_bytecode.specs.declared.Bytecode.{Bytecode}
@@ -15,12 +15,6 @@ use borrow.Author.Needs.{needs}
 use native.Mathlib.Omega.{arith}
 use Rattle.livevar_analysis.proofs.output.write_info.Statement.{statement}
 use Rattle.livevar_analysis.proofs.output.write_info.Tie as tie
-use Rattle.livevar_analysis.proofs.output.write_info.Reads as reads
-use Rattle.livevar_analysis.proofs.output.write_info.Lts as lts
-use Rattle.dataflow_domains.proofs.LiveVarState.empty.Reads as empty-reads
-use Rattle.livevar_analysis.proofs.engine.apply.Reads as apply-reads
-use Rattle.livevar_analysis.proofs.output.after_of.Reads as after-of-reads
-use Rattle.livevar_analysis.proofs.output.put_info.Reads as put-info-reads
 
 record Held (kills gens assigns marks keys sets : List ℕ) (n k m : ℕ) (old out : List ℕ) : Type 0 where
   within : k ≤ n
