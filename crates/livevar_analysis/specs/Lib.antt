@@ -14,3 +14,5 @@ pub mod DecodeLaws
 pub mod InputLaws
 pub mod EngineLaws
 pub mod RunLaws
+pub mod Output
+pub mod OutputLaws
