@@ -16,3 +16,5 @@ pub mod EngineLaws
 pub mod RunLaws
 pub mod Output
 pub mod OutputLaws
+pub mod LiveCall
+pub mod LiveCallLaws
