@@ -19,7 +19,7 @@ by-lt {P} a b y n = go (decLt a b)
     go (yes e) = y e
     go (no h) = n (omega arith)
 
--- the second list begins where the first isBranch
+-- the second list begins where the first ends
 pub getD-behind : {A : Type 0} (xs ys : List A) (n : ℕ) (d : A) → length xs ≤ n → getD (xs ++ ys) n d ≡ getD ys (n - length xs) d
 getD-behind xs ys n d h =
     let e : n ≡ length xs + (n - length xs) = omega arith in
@@ -37,7 +37,7 @@ unfolding total
 total-same zero f g h = refl
 total-same (suc n) f g h = ap₂ _+_ (total-same n f g h) (h n)
 
--- a piece isBranch before the next begins
+-- a piece ends before the next begins
 pub total-le : (n e : ℕ) (f : ℕ → ℕ) → e < n → total e f + f e ≤ total n f
 unfolding total
 total-le zero e f h = absurd (not-suc-le-zero h)

@@ -8,3 +8,5 @@ pub mod JoinLaws
 pub mod PartLaws
 pub mod CopyLaws
 pub mod WriteLaws
+pub mod ByteLaws
+pub mod ReplyLaws

@@ -29,6 +29,7 @@ news-at words met q c p m n t h =
 
 -- ---- when there is news
 
+-- p was not met
 pub news-first : (words met : List ℕ) (p m : ℕ) → getD met p 0 ≡ 0 → newsAt words met p m ≡ true
 unfolding newsAt
 news-first words met p m e = ap (λ (b : Bool). b || not (eqb (union (setAt words p) m) (setAt words p))) (eq-eqb (getD met p 0) 0 e)
@@ -60,17 +61,17 @@ receive-none m st p e = sym (ap (λ (b : Bool). cond b (joined m st p) st) e)
 
 module _ (words met q : List ℕ) (c : Cursor) (p m : ℕ) where
   -- with news p joins the list: its old set with m is stored, it is met, and its key is put
-  pub joins : (old s : ℕ) (words₁ q₁ : List ℕ) (r : Cursor) → newsAt words met p m ≡ true → old ≡ setAt words p → s ≡ union old m → Stored words p s words₁
+  pub received-news : (old s : ℕ) (words₁ q₁ : List ℕ) (r : Cursor) → newsAt words met p m ≡ true → old ≡ setAt words p → s ≡ union old m → Stored words p s words₁
       → c .head + c .len < length q → Put q c p q₁ r → Received words met q c p m words₁ (set met p 1) q₁ r
-  joins old s words₁ q₁ r e is grown stored room put = record {
+  received-news old s words₁ q₁ r e is grown stored room put = record {
     state = λ n t inside fits. ap (λ (x : List ℕ). stateOf x (set met p 1) q₁ r t) (stored .sets n inside fits ∙ ap (set (setsOf n words) p) (grown ∙ ap (λ (x : ℕ). union x m) (is ∙ sym (at-node n words p inside)))) ∙ receive-news (setsOf n words) met q q₁ c r p m t (news-at words met q c p m n t inside ∙ e) (put .queued);
     same-head = put .same-head;
     fits = λ h. omega (arith, put .same-head, put .longer);
   }
 
   -- without news nothing changes
-  pub stays : newsAt words met p m ≡ false → Received words met q c p m words met q c
-  stays e = record {
+  pub received-none : newsAt words met p m ≡ false → Received words met q c p m words met q c
+  received-none e = record {
     state = λ n t inside fits. receive-none m (stateOf (setsOf n words) met q c t) p (news-at words met q c p m n t inside ∙ e);
     same-head = refl;
     fits = λ h. h;

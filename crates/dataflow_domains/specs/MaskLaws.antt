@@ -2,7 +2,6 @@
 use mathlib.Core.Path.{_≡_, refl, sym, ap, ap₂, _∙_, subst}
 use mathlib.Core.Logic.{_≢_, ⊎-elim}
 use mathlib.Core.List.{List, [], _∷_, List·Memᴰ, List·Memᴰ·head, List·Memᴰ·tail, List·Memᴰ·not-nil, List·Memᴰ·cases-cons}
-use native.Mathlib.Decide.{ℕ-discrete}
 use mathlib.Core.Bool.{Bool, true, false, _||_, _&&_, not}
 use Prim.Native.Nat.{ℕ, zero, suc, _+_, _-_, _*_, _/_, _%_, _^_, _≤_, _<_, zero-le, min, max}
 use native.Mathlib.Nat.{div-eq-of-lt, le-refl, le-trans, le-antisymm, lt-of-not-le, div-add-mod', mod-lt, zero-lt-suc, pow-suc, mod-eq-of-lt, mul-mod-left, mul-div-cancel, add-comm}
@@ -151,6 +150,7 @@ sub-trans p q = record { each = λ i. le-trans (p .each i) (q .each i) }
 pub sub-antisymm : {a b : ℕ} → Sub a b → Sub b a → a ≡ b
 sub-antisymm {a} {b} p q = ext a b (λ i. le-antisymm (p .each i) (q .each i))
 
+-- equal sets are subsets of each other
 pub sub-eq : {a b : ℕ} → a ≡ b → Sub a b
 sub-eq {a} e = subst (λ (x : ℕ). Sub a x) e (sub-refl a)
 
@@ -172,12 +172,15 @@ sub-union-r a b = record { each = λ i. omega (arith, bit-union a b i) }
 pub union-least : {a b c : ℕ} → Sub a c → Sub b c → Sub (union a b) c
 union-least {a} {b} {c} p q = record { each = λ i. omega (arith, bit-union a b i, p .each i, q .each i) }
 
+-- larger sets have a larger union
 pub union-mono : {a b c d : ℕ} → Sub a c → Sub b d → Sub (union a b) (union c d)
 union-mono {a} {b} {c} {d} p q = record { each = λ i. omega (arith, bit-union a b i, bit-union c d i, p .each i, q .each i) }
 
+-- and a larger difference
 pub minus-mono : {a b : ℕ} (c : ℕ) → Sub a b → Sub (minus a c) (minus b c)
 minus-mono {a} {b} c p = record { each = λ i. omega (arith, bit-minus a c i, bit-minus b c i, p .each i) }
 
+-- a difference is a subset
 pub minus-sub : (a b : ℕ) → Sub (minus a b) a
 minus-sub a b = record { each = λ i. omega (arith, bit-minus a b i) }
 
@@ -185,6 +188,7 @@ minus-sub a b = record { each = λ i. omega (arith, bit-minus a b i) }
 pub sub-of-union : {a b : ℕ} → union a b ≡ a → Sub b a
 sub-of-union {a} {b} e = record { each = λ i. omega (arith, bit-union a b i, ap (λ (x : ℕ). bit x i) e) }
 
+-- and the other way round
 pub union-of-sub : {a b : ℕ} → Sub b a → union a b ≡ a
 union-of-sub {a} {b} p = sub-antisymm (union-least (sub-refl a) p) (sub-union-l a b)
 
@@ -241,6 +245,7 @@ sub-le =
 pub sub-lt : {a b : ℕ} (l : ℕ) → Sub a b → b < 2 ^ l → a < 2 ^ l
 sub-lt {a} {b} l p h = omega (arith, sub-le a b p)
 
+-- nor is a difference
 pub minus-lt : (l a b : ℕ) → a < 2 ^ l → minus a b < 2 ^ l
 minus-lt l a b h = sub-lt l (minus-sub a b) h
 
@@ -348,11 +353,8 @@ unions-one x = sub-antisymm (union-least (sub-refl x) (sub-empty x)) (sub-union-
 
 -- a set whose every element is one of a set is a subset of it
 pub sub-by : {a b : ℕ} → ((i : ℕ) → bit a i ≡ 1 → bit b i ≡ 1) → Sub a b
-sub-by {a} {b} h = record { each = λ i. go i (ℕ-discrete (bit a i) 1) }
-  where
-    go : (i : ℕ) → Dec (bit a i ≡ 1) → bit a i ≤ bit b i
-    go i (yes e) = omega (arith, h i e)
-    go i (no g) = omega (arith, g, bit-lt a i)
+sub-by {a} {b} h = record { each = λ i. by-eq (bit a i) 1 (λ e. omega (arith, h i e)) (λ g. omega (arith, bit-lt a i)) }
 
+-- an element of a subset is one of the set
 pub sub-at : {a b : ℕ} → Sub a b → (i : ℕ) → bit a i ≡ 1 → bit b i ≡ 1
 sub-at {a} {b} p i e = omega (arith, p .each i, bit-lt b i)

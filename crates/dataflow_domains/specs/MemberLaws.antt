@@ -5,7 +5,7 @@ use mathlib.Core.Bool.{Bool, true, false, cond}
 use mathlib.Core.List.{List, [], _∷_, List·Memᴰ}
 use Prim.Native.Nat.{ℕ, zero, suc, _+_, _-_, _*_, _/_, _%_, _^_, _≤_, _<_, min}
 use native.Mathlib.Nat.{not-suc-le-zero, pow-suc, div-add-mod', div-lt-iff-lt-mul, suc-mul, le-of-suc-le-suc, lt-irrefl}
-use native.Mathlib.Decide.{ℕ-discrete, decLt}
+use native.Mathlib.Decide.{ℕ-discrete}
 use native.Mathlib.Numerals.{add-one}
 use native.Mathlib.Omega.{arith}
 use lib.Arith.{lt-one}
@@ -15,7 +15,8 @@ use lib.Dec.{eqb}
 use lib.ListN.{getD, length}
 use lib.Pow.{shr-shr}
 use Rattle.base.specs.Lists.{keep}
-use Rattle.base.specs.ListLaws.{keep-in, in-keep, keep-same, Ascending, keep-ascending}
+use Rattle.base.specs.ListLaws.{by-eq, keep-in, in-keep, keep-same, Ascending, keep-ascending}
+use Rattle.base.specs.JoinLaws.{by-lt}
 use Rattle.dataflow_domains.specs.Mask.{bit, holds, minus}
 use Rattle.dataflow_domains.specs.MaskLaws.{bit-lt, bit-low, bit-suc, bit-empty, bit-self, bit-other, bit-and, bit-minus, bit-above, ones-zero, minus-none, minus-sub, sub-le, holds-true, true-holds, false-holds, holds-same}
 use Rattle.dataflow_domains.specs.Words.{maskOf, Words}
@@ -24,6 +25,7 @@ use Rattle.dataflow_domains.specs.Members.{members, Lowest}
 
 -- ---- the least element
 
+-- the trailing zeros of a number give it
 pub trailing-lowest : (k n : ℕ) → 0 < n → n < 2 ^ k → Lowest n (trailingZeros k n)
 unfolding trailingZeros
 trailing-lowest zero n p h = absurd (lt-irrefl 0 (omega arith))
@@ -41,33 +43,24 @@ trailing-lowest (suc k) n p h = go (n % 2) refl (rw (pow-suc 2 k) at h) (trailin
     go (suc zero) e l ih = rw e (record { has = bit-low n ∙ e; first = λ i q. absurd (not-suc-le-zero q) })
     go (suc (suc d)) e l ih = absurd (lt-irrefl 0 (omega arith))
 
--- the words before j are 0, and r is the least element of word j: the mask's least element
-last-word : (b : ℕ) → 0 < b → (i j r : ℕ) → i < j * b + r → r < b → (i / b < j → ⊥) → (i / b ≡ j) × (i % b < r)
+-- what is below digit r of word j, and not in a word before it, is a lower digit of that word
+last-word : (b : ℕ) → 0 < b → (i j r : ℕ) → i < j * b + r → r < b → j ≤ i / b → (i / b ≡ j) × (i % b < r)
 last-word b p i j r q h l =
     let most : i / b < suc j = div-lt-iff-lt-mul p .1 (omega (arith, suc-mul j b)) in
     let e : i / b ≡ j = omega arith in
     (e, omega (arith, div-add-mod' i b, ap (λ (x : ℕ). x * b) e))
 
+-- the words before j are 0, and r is the least element of word j: so it is the mask's
 pub lowest-word : (b : ℕ) → 0 < b → (xs : List ℕ) (j r : ℕ) → Words b xs → ((k : ℕ) → k < j → getD xs k 0 ≡ 0) → Lowest (getD xs j 0) r → r < b
     → Lowest (maskOf b xs) (j * b + r)
 lowest-word b p xs j r ws before low h = record {
   has = bit-word b xs ws j r h ∙ low .has;
-  first = λ i q. bit-mask b p xs ws i ∙ go i q (decLt (i / b) j);
+  first = λ i q. bit-mask b p xs ws i ∙ by-lt (i / b) j (λ l. ap (λ (x : ℕ). bit x (i % b)) (before (i / b) l) ∙ bit-empty (i % b)) (λ l. let here = last-word b p i j r q h l in ap (λ (k : ℕ). bit (getD xs k 0) (i % b)) (here .0) ∙ low .first (i % b) (here .1));
 }
-  where
-    go : (i : ℕ) → i < j * b + r → Dec (i / b < j) → bit (getD xs (i / b) 0) (i % b) ≡ 0
-    go i q (yes l) = ap (λ (x : ℕ). bit x (i % b)) (before (i / b) l) ∙ bit-empty (i % b)
-    go i q (no l) =
-        let here = last-word b p i j r q h l in
-        ap (λ (k : ℕ). bit (getD xs k 0) (i % b)) (here .0) ∙ low .first (i % b) (here .1)
 
 -- it is within the width
 pub lowest-lt : (m i k : ℕ) → Lowest m i → m < 2 ^ k → i < k
-lowest-lt m i k low h = go (decLt i k)
-  where
-    go : Dec (i < k) → i < k
-    go (yes q) = q
-    go (no q) = absurd (omega (arith, low .has, bit-above m i k h (omega arith)))
+lowest-lt m i k low h = by-lt i k (λ q. q) (λ q. absurd (omega (arith, low .has, bit-above m i k h q)))
 
 -- ---- the walk
 
@@ -80,11 +73,9 @@ less-other m i k h = omega (arith, bit-minus m (2 ^ i) k, bit-other i k (λ e. h
 
 -- a number falls as an element is taken out: the walk's measure
 pub walk-falls : (m i : ℕ) → bit m i ≡ 1 → minus m (2 ^ i) < m
-walk-falls m i e = go (ℕ-discrete (minus m (2 ^ i)) m)
-  where
-    go : Dec (minus m (2 ^ i) ≡ m) → minus m (2 ^ i) < m
-    go (yes q) = absurd (omega (arith, e, less-at m i, ap (λ (x : ℕ). bit x i) q))
-    go (no q) = omega (arith, sub-le (minus m (2 ^ i)) m (minus-sub m (2 ^ i)))
+walk-falls m i e =
+    by-eq (minus m (2 ^ i)) m (λ q. absurd (omega (arith, less-at m i, ap (λ (x : ℕ). bit x i) q)))
+    (λ q. omega (arith, sub-le (minus m (2 ^ i)) m (minus-sub m (2 ^ i))))
 
 -- the end
 pub walk-end : (n k : ℕ) → keep n k (holds 0) ≡ []
@@ -115,6 +106,7 @@ walk-from (suc n) k m i low h l = go (ℕ-discrete k i) (walk-from n (suc k) m i
         ∙ ap (λ (r : List ℕ). i ∷ r)
         (sym (test (minus m (2 ^ i)) k false (false-holds (minus m (2 ^ i)) k (less-other m i k g ∙ low .first k (omega arith)))))
 
+-- the members are the least element, and the members of the rest
 pub walk-more : (n m i : ℕ) → Lowest m i → m < 2 ^ n → members n m ≡ i ∷ members n (minus m (2 ^ i))
 walk-more n m i low h = walk-from n 0 m i low (omega arith) (omega (arith, lowest-lt m i n low h))
 
@@ -133,6 +125,7 @@ and-odd a b = sym (bit-low (bitAnd a b)) ∙ bit-and a b 0 ∙ ap₂ min (bit-lo
 by-half : (a b : ℕ) → a / 2 ≡ b / 2 → a % 2 ≡ b % 2 → a ≡ b
 by-half a b h l = omega arith
 
+-- the step of the walk in code
 pub less-lowest : (k n : ℕ) → 0 < n → n < 2 ^ k → bitAnd n (n - 1) ≡ minus n (2 ^ trailingZeros k n)
 unfolding trailingZeros
 less-lowest zero n p h = absurd (lt-irrefl 0 (omega arith))
@@ -163,6 +156,7 @@ in-members n m i h = let k = in-keep n 0 i (holds m) h in (omega (arith, k .high
 pub members-in : (n m i : ℕ) → i < n → bit m i ≡ 1 → List·Memᴰ i (members n m)
 members-in n m i h e = keep-in n 0 i (holds m) (omega arith) (omega arith) (true-holds m i e)
 
+-- each is larger than the one before it
 pub members-ascend : (n m : ℕ) → Ascending 0 (members n m)
 members-ascend n m = keep-ascending n 0 0 (holds m) (omega arith)
 
@@ -188,5 +182,6 @@ ones-all (suc n) x h =
     let l : x < 2 ^ n * 2 = rw (pow-suc 2 n) at h in
     omega (arith, ones-all n (x / 2) (omega arith), ones-step x)
 
+-- as many as there are ones
 pub members-length : (n m : ℕ) → m < 2 ^ n → length (members n m) ≡ ones m
 members-length n m h = length-from n 0 m ∙ ap (onesIn n) (omega arith) ∙ ones-all n m h

@@ -8,3 +8,9 @@ pub mod Term3
 pub mod RewriteLaws
 pub mod RewriteAccepted
 pub mod Walk
+pub mod Rules
+pub mod Engine
+pub mod DecodeLaws
+pub mod InputLaws
+pub mod EngineLaws
+pub mod RunLaws

@@ -4,7 +4,7 @@ use mathlib.Core.Bool.{true, false}
 use borrow.Author.Needs.{needs}
 use Rattle.dataflow_domains.specs.Sets.{mask, isChanged}
 use Rattle.dataflow_analysis.specs.Queue.{newsAt}
-use Rattle.dataflow_analysis.specs.ReceiptLaws.{news-first, news-again, joins, stays}
+use Rattle.dataflow_analysis.specs.ReceiptLaws.{news-first, news-again, received-news, received-none}
 use Rattle.dataflow_analysis.proofs.receive_at.Statement.{statement}
 use Rattle.dataflow_analysis.proofs.receive_at.Tie as tie
 
@@ -38,7 +38,7 @@ same-length-3 c = search needs
 returns : tie.Need-returns
 returns c = let a = c .before .before .before .before .before .before .before .before .before .before .before .before .before .before .before .before .before .args in
     let news : newsAt (a .sets .now) (a .met .now) (a .p) (mask (a .m)) ≡ true = news-first _ _ _ _ (c .before .before .before .before .before .before .before .before .if1 .taken) in
-    joins (a .sets .now) (a .met .now) (a .q .now) (a .c) (a .p) (mask (a .m)) _ _ _ _ _ news (c .before .before .before .before .before .before .before .before .before .before .before .before .load .ensures) (c .before .before .before .before .before .before .before .before .before .before .before .join .ensures .0) (c .before .before .before .before .before .before .store .ensures) (c .before .before .before .before .before .before .before .before .before .before .before .before .before .before .before .before .before .pre .2 news) (c .before .before .put .ensures)
+    received-news (a .sets .now) (a .met .now) (a .q .now) (a .c) (a .p) (mask (a .m)) _ _ _ _ _ news (c .before .before .before .before .before .before .before .before .before .before .before .before .load .ensures) (c .before .before .before .before .before .before .before .before .before .before .before .join .ensures .0) (c .before .before .before .before .before .before .store .ensures) (c .before .before .before .before .before .before .before .before .before .before .before .before .before .before .before .before .before .pre .2 news) (c .before .before .put .ensures)
 
 enum-told : tie.Need-enum-told
 enum-told c = search needs
@@ -62,7 +62,7 @@ same-length-4 c = search needs
 returns-2 : tie.Need-returns-2
 returns-2 c = let a = c .before .before .before .before .before .before .before .before .before .before .before .args in
     let news : newsAt (a .sets .now) (a .met .now) (a .p) (mask (a .m)) ≡ false = news-again _ _ _ _ _ (c .before .before .before .before .before .before .load .ensures) (c .before .before .if1 .left) ∙ sym (c .before .before .before .before .before .join .ensures .1) ∙ ap isChanged (c .enum-told .given .1) in
-    stays (a .sets .now) (a .met .now) (a .q .now) (a .c) (a .p) (mask (a .m)) news
+    received-none (a .sets .now) (a .met .now) (a .q .now) (a .c) (a .p) (mask (a .m)) news
 
 same-length-5 : tie.Need-same-length-5
 same-length-5 c = search needs
@@ -76,7 +76,7 @@ same-length-7 c = search needs
 returns-3 : tie.Need-returns-3
 returns-3 c = let a = c .before .before .before .before .before .before .before .before .before .before .before .before .before .before .before .before .before .before .before .args in
     let news : newsAt (a .sets .now) (a .met .now) (a .p) (mask (a .m)) ≡ true = news-again _ _ _ _ _ (c .before .before .before .before .before .before .before .before .before .before .before .before .before .before .load .ensures) (c .before .before .before .before .before .before .before .before .before .before .if1 .left) ∙ sym (c .before .before .before .before .before .before .before .before .before .before .before .before .before .join .ensures .1) ∙ ap isChanged (c .before .before .before .before .before .before .before .before .enum-told2 .given .1) in
-    joins (a .sets .now) (a .met .now) (a .q .now) (a .c) (a .p) (mask (a .m)) _ _ _ _ _ news (c .before .before .before .before .before .before .before .before .before .before .before .before .before .before .load .ensures) (c .before .before .before .before .before .before .before .before .before .before .before .before .before .join .ensures .0) (c .before .before .before .before .before .before .store2 .ensures) (c .before .before .before .before .before .before .before .before .before .before .before .before .before .before .before .before .before .before .before .pre .2 news) (c .before .before .put2 .ensures)
+    received-news (a .sets .now) (a .met .now) (a .q .now) (a .c) (a .p) (mask (a .m)) _ _ _ _ _ news (c .before .before .before .before .before .before .before .before .before .before .before .before .before .before .load .ensures) (c .before .before .before .before .before .before .before .before .before .before .before .before .before .join .ensures .0) (c .before .before .before .before .before .before .store2 .ensures) (c .before .before .before .before .before .before .before .before .before .before .before .before .before .before .before .before .before .before .before .pre .2 news) (c .before .before .put2 .ensures)
 
 pub receive-at-spec : {M : Type 1} → statement M
 receive-at-spec =

@@ -1,0 +1,67 @@
+//! Sheets, live sets and dying nodes: safe calls over the proved archive (crates/c_api).
+//!
+//! Every call takes any slices at all. A refusal leaves what was lent as it was.
+pub mod plain;
+pub mod random;
+pub mod sheet;
+pub mod text;
+
+use std::fmt;
+
+/// Why a call was turned away: a number of the paper's table, and the place.
+#[derive(Clone, Copy, Debug, PartialEq, Eq)]
+pub struct Refusal {
+    pub number: u16,
+    pub place: u16,
+}
+
+impl fmt::Display for Refusal {
+    fn fmt(&self, f: &mut fmt::Formatter<'_>) -> fmt::Result {
+        let place = self.place;
+        write!(f, "refused {} {}: ", self.number, place)?;
+        match self.number {
+            1 => write!(f, "the length is no multiple of 512, below 1,024 or above 35,840"),
+            2 => write!(f, "block {place}: its number or check is wrong, or its bytes 4 to 31 are not zero"),
+            3 => write!(f, "the heading breaks its layout, or the block count does not fit its instruction count"),
+            4 => write!(f, "offset {place}: the record breaks the table of kinds, or is past the last instruction and not zero"),
+            5 => write!(f, "offset {place}: a local is not below the count of locals"),
+            6 => write!(f, "offset {place}: the Label repeats an earlier Label's number"),
+            7 => write!(f, "offset {place}: a label is named that no Label has"),
+            8 => write!(f, "offset {place}: the last instruction can fall past the end"),
+            9 => write!(f, "the lent output is too short"),
+            10 => write!(f, "a new label or attribute id would be above 65,535"),
+            11 => write!(f, "the rewritten code would exceed 1,024 instructions"),
+            12 => write!(f, "graph {}: more than 64 nodes, or a live bit at or above the node count", place + 1),
+            13 if place % 1000 == 300 => write!(f, "graph {}: the list's length is no multiple of three or above 256 triples", place / 1000 + 1),
+            13 => write!(f, "graph {}, triple {}: a node is not below the count, or the triple is not above the one before it", place / 1000 + 1, place % 1000),
+            14 => write!(f, "the asked node is not below the node count"),
+            _ => write!(f, "unknown"),
+        }
+    }
+}
+
+impl std::error::Error for Refusal {}
+
+mod ffi {
+    #[link(name = "c_api", kind = "static")]
+    extern "C" {
+        pub fn sorzibelu_check(sheet: *const u8, len: usize) -> u64;
+    }
+}
+
+/// number * 2^32 + value, the number 0 where accepted.
+fn unpack(packed: u64) -> Result<u32, Refusal> {
+    let number = (packed >> 32) as u16;
+    let value = packed as u32;
+    if number == 0 {
+        Ok(value)
+    } else {
+        Err(Refusal { number, place: value as u16 })
+    }
+}
+
+/// Checks 1 to 8 of a sheet.
+pub fn check(sheet: &[u8]) -> Result<(), Refusal> {
+    // SAFETY: the call reads `len` bytes from the pointer, and nothing else.
+    unpack(unsafe { ffi::sorzibelu_check(sheet.as_ptr(), sheet.len()) }).map(|_| ())
+}

@@ -1,0 +1,204 @@
+//! Random sheets, and damaged copies of them.
+use crate::sheet::*;
+
+/// Marsaglia's xorshift.
+pub struct Rng(u64);
+
+impl Rng {
+    pub fn new(seed: u64) -> Rng {
+        Rng(seed.wrapping_mul(0x9e37_79b9_7f4a_7c15) | 1)
+    }
+
+    pub fn next(&mut self) -> u64 {
+        self.0 ^= self.0 << 13;
+        self.0 ^= self.0 >> 7;
+        self.0 ^= self.0 << 17;
+        self.0
+    }
+
+    /// Below n.
+    pub fn below(&mut self, n: usize) -> usize {
+        (self.next() >> 16) as usize % n
+    }
+
+    pub fn chance(&mut self, of: usize) -> bool {
+        self.below(of) == 0
+    }
+}
+
+/// What a random sheet is like.
+#[derive(Clone, Copy)]
+pub struct Shape {
+    pub n: usize,
+    pub locals: usize,
+    /// How many Labels, at most half of n.
+    pub labels: usize,
+    /// Abort flags are drawn too.
+    pub flags: bool,
+}
+
+/// A sheet that the checks accept.
+pub fn sheet(rng: &mut Rng, shape: Shape) -> Sheet {
+    let Shape { n, locals, labels, flags } = shape;
+    let labels = labels.min(n.saturating_sub(1));
+    let step = 1 + rng.below(60);
+    let mut numbers: Vec<u16> = (0..labels).map(|i| (i * step + if rng.chance(20) { 60_000 } else { 0 }) as u16).collect();
+    numbers.sort_unstable();
+    numbers.dedup();
+    let mut code: Vec<Instruction> = vec![];
+    let mut places: Vec<usize> = (0..n - 1).collect();
+    for i in (1..places.len()).rev() {
+        places.swap(i, rng.below(i + 1));
+    }
+    let mut label_at = vec![None; n];
+    for (i, l) in numbers.iter().enumerate() {
+        label_at[places[i]] = Some(*l);
+    }
+    for k in 0..n {
+        let mut r = match label_at[k] {
+            Some(l) => Instruction { one: l, ..Instruction::new(LABEL) },
+            None => instruction(rng, locals, &numbers, flags, k == n - 1),
+        };
+        let attrs = if rng.chance(30) { 65_536 } else { 50 };
+        r.attr = rng.below(attrs) as u16;
+        code.push(r);
+    }
+    let users = rng.below(locals + 1);
+    Sheet {
+        locals: locals as u16,
+        user_locals: users as u16,
+        parameters: rng.below(users + 1) as u16,
+        references: if locals == 0 { 0 } else { rng.next() >> (64 - locals) },
+        code,
+    }
+}
+
+fn list(rng: &mut Rng, locals: usize, least: usize, most: usize) -> Vec<u8> {
+    let most = if locals == 0 { 0 } else { most };
+    (0..least.max(rng.below(most + 1))).map(|_| rng.below(locals) as u8).collect()
+}
+
+fn instruction(rng: &mut Rng, locals: usize, labels: &[u16], flags: bool, last: bool) -> Instruction {
+    loop {
+        let kind = if last { [RET, BRANCH, JUMP, ABORT, CALL][rng.below(5)] } else { rng.below(12) as u8 };
+        let mut r = Instruction::new(kind);
+        let label = |rng: &mut Rng| labels[rng.below(labels.len())];
+        match kind {
+            ASSIGN if locals > 0 => {
+                r.sub = rng.below(3) as u8;
+                r.dsts = list(rng, locals, 1, 1);
+                r.srcs = list(rng, locals, 1, 1);
+            }
+            CALL => {
+                r.sub = if last || rng.chance(12) { 18 } else { rng.below(55) as u8 };
+                let most = if rng.chance(3) { 8 } else { 2 };
+                r.dsts = list(rng, locals, 0, most);
+                r.srcs = list(rng, locals, 0, most);
+                r.payload = rng.next() as u32;
+                if flags && !last && locals > 0 && !labels.is_empty() && rng.chance(3) {
+                    r.one = label(rng);
+                    r.abort = Some(rng.below(locals) as u8);
+                }
+            }
+            RET => r.srcs = list(rng, locals, 0, 3),
+            LOAD if locals > 0 => {
+                r.sub = rng.below(7) as u8;
+                r.dsts = list(rng, locals, 1, 1);
+                r.payload = rng.next() as u32;
+            }
+            BRANCH if locals > 0 && !labels.is_empty() => {
+                r.one = label(rng);
+                r.two = label(rng);
+                r.srcs = list(rng, locals, 1, 1);
+            }
+            JUMP if !labels.is_empty() => r.one = label(rng),
+            ABORT if locals > 0 => r.srcs = list(rng, locals, 1, 1),
+            NOP => {}
+            SAVE_MEM | SAVE_SPEC_VAR => r.payload = rng.next() as u32,
+            PROP => {
+                r.sub = rng.below(3) as u8;
+                r.srcs = list(rng, locals, 0, 4);
+                r.payload = rng.next() as u32;
+            }
+            _ => continue,
+        }
+        return r;
+    }
+}
+
+/// A shape with sizes of every order, and the limits now and then.
+pub fn shape(rng: &mut Rng) -> Shape {
+    let n = match rng.below(12) {
+        0 => 1 + rng.below(1024),
+        1 => 1023 + rng.below(2),
+        2 => 15 * (1 + rng.below(4)) + rng.below(3) - 1,
+        _ => 1 + rng.below(40),
+    };
+    let locals = match rng.below(6) {
+        0 => 64,
+        1 => rng.below(65),
+        _ => rng.below(6),
+    };
+    Shape { n, locals, labels: rng.below(1 + n / 2), flags: rng.chance(2) }
+}
+
+/// One or two changes of a sheet's bytes, or of its code; mostly sealed again, so that later checks are met.
+pub fn damage(rng: &mut Rng, s: &[u8]) -> Vec<u8> {
+    if rng.chance(3) {
+        return damaged_code(rng, s);
+    }
+    let mut t = s.to_vec();
+    for _ in 0..1 + rng.below(2) {
+        let at = match rng.below(4) {
+            0 => rng.below(t.len()),
+            1 => rng.below(32),
+            2 => 512 + rng.below(32),
+            _ => {
+                let blocks = t.len() / BLOCK - 1;
+                record_start(rng.below(blocks * PER_BLOCK)) + rng.below(RECORD)
+            }
+        };
+        t[at] = match rng.below(4) {
+            0 => 0,
+            1 => t[at].wrapping_add(1),
+            2 => 1 << rng.below(8),
+            _ => rng.next() as u8,
+        };
+    }
+    match rng.below(16) {
+        0 => t.truncate(rng.below(t.len() + 1)),
+        1 => t.extend_from_slice(&vec![0; 1 + rng.below(600)]),
+        2 => t.extend_from_slice(&[0; BLOCK]),
+        3 => t.truncate(t.len() - BLOCK),
+        _ => {}
+    }
+    if !rng.chance(5) {
+        for b in 0..t.len() / BLOCK {
+            let block = &mut t[b * BLOCK..(b + 1) * BLOCK];
+            block[..2].copy_from_slice(&(b as u16).to_le_bytes());
+            let sum: usize = block[..2].iter().chain(&block[4..]).map(|x| *x as usize).sum();
+            block[2..4].copy_from_slice(&(sum as u16).to_le_bytes());
+        }
+    }
+    t
+}
+
+/// A label that moves onto another's number or away, a local at the count, or another last instruction.
+fn damaged_code(rng: &mut Rng, s: &[u8]) -> Vec<u8> {
+    let mut sheet = Sheet::of_bytes(s);
+    let n = sheet.code.len();
+    for _ in 0..1 + rng.below(2) {
+        let (k, from) = (rng.below(n), rng.below(n));
+        match rng.below(4) {
+            0 => sheet.code[k] = sheet.code[from].clone(),
+            1 => sheet.code[n - 1] = sheet.code[from].clone(),
+            2 if sheet.code[k].one > 0 => sheet.code[k].one ^= 1,
+            _ => {
+                if let Some(x) = sheet.code[k].srcs.first_mut() {
+                    *x = sheet.locals as u8;
+                }
+            }
+        }
+    }
+    sheet.bytes()
+}
