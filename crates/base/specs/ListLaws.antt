@@ -207,7 +207,7 @@ pub data Distinct : List ℕ → Type 0 where
   none : Distinct []
   one : {x : ℕ} {xs : List ℕ} → (List·Memᴰ x xs → ⊥) → Distinct xs → Distinct (x ∷ xs)
 
-distinct-snoc : {xs : List ℕ} (x : ℕ) → (List·Memᴰ x xs → ⊥) → Distinct xs → Distinct (xs ++ (x ∷ []))
+pub distinct-snoc : {xs : List ℕ} (x : ℕ) → (List·Memᴰ x xs → ⊥) → Distinct xs → Distinct (xs ++ (x ∷ []))
 distinct-snoc x h none = one (λ i. List·Memᴰ·not-nil i) none
 distinct-snoc x h (one {x = y} {xs = ys} g d) =
     one (λ i. ⊎-elim g (λ s. h (List·Memᴰ·head (sym (List·Memᴰ·eq-of-singleton s)))) (List·Memᴰ·append-cases ys i))
