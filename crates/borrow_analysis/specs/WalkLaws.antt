@@ -80,8 +80,10 @@ module _ (ts : List Triple) (used c : ℕ) (inside : (t : Triple) → List·Mem�
   closed-none st = record { each = λ x h. inl h }
 
   closed-next : {a b e : Seen} → Closed a b → Closed b e → Sub (b .mask) (e .mask) → Closed a e
-  closed-next {a} {b} {e} v w s = record { each = λ x h. ⊎-elim
-      (λ m. ⊎-elim (λ o. inl o) (λ f. inr (λ t i q. settled-more (t .parent) s (f t i q))) (v .each x m)) (λ f. inr f) (w .each x h) }
+  closed-next {a} {b} {e} v w s = record {
+    each = λ x h. ⊎-elim
+        (λ m. ⊎-elim (λ o. inl o) (λ f. inr (λ t i q. settled-more (t .parent) s (f t i q))) (v .each x m)) (λ f. inr f) (w .each x h);
+  }
 
   pub record Visits (old new : Seen) (xs : List ℕ) : Type 0 where
     pub grows : Grows c old new
