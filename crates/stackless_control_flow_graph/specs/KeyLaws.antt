@@ -105,11 +105,11 @@ pub pair-none : (a b : ℕ) → a ≡ noOffset → [] ≡ pairOf a b
 unfolding pairOf
 pair-none a b e = ap (λ (t : Bool). cond t [] (a ∷ cond (eqb b noOffset) [] (b ∷ []))) (sym (eq-eqb a noOffset e))
 
-pair-one : (a b : ℕ) → (a ≡ noOffset → ⊥) → b ≡ noOffset → a ∷ [] ≡ pairOf a b
+pub pair-one : (a b : ℕ) → (a ≡ noOffset → ⊥) → b ≡ noOffset → a ∷ [] ≡ pairOf a b
 unfolding pairOf
 pair-one a b g e = sym (ap₂ (λ (s t : Bool). cond s [] (a ∷ cond t [] (b ∷ []))) (ne-eqb a noOffset g) (eq-eqb b noOffset e))
 
-pair-two : (a b : ℕ) → (a ≡ noOffset → ⊥) → (b ≡ noOffset → ⊥) → a ∷ b ∷ [] ≡ pairOf a b
+pub pair-two : (a b : ℕ) → (a ≡ noOffset → ⊥) → (b ≡ noOffset → ⊥) → a ∷ b ∷ [] ≡ pairOf a b
 unfolding pairOf
 pair-two a b g h = sym (ap₂ (λ (s t : Bool). cond s [] (a ∷ cond t [] (b ∷ []))) (ne-eqb a noOffset g) (ne-eqb b noOffset h))
 

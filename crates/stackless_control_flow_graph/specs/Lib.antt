@@ -9,3 +9,4 @@ pub mod MoreLists
 pub mod OffsetLaws
 pub mod KeyLaws
 pub mod FlowLaws
+pub mod RowLaws

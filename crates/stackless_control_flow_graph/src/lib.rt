@@ -3,10 +3,18 @@ pub mod next; // next.rt: the successors of an offset
 pub mod starts; // starts.rt: the successors of every offset, and where blocks start
 pub mod blocks; // blocks.rt: the blocks by offset
 pub mod keys; // keys.rt: the key of each block
+pub mod rows; // rows.rt: the rows of the flow table
 
 // The successors of an offset: none, one or two, in ascending order.
 pub struct Successors {
     pub count: usize,
     pub first: u16,
     pub second: u16,
+}
+
+// Three keys.
+pub struct Three {
+    pub first: u16,
+    pub second: u16,
+    pub third: u16,
 }
