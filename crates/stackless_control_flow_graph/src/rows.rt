@@ -1,7 +1,7 @@
 // The rows of the flow table: six numbers for each block, by offset. Assumes nothing.
 ghost use mathlib.Core.Path.{_≡_};
 ghost use mathlib.Core.Bool.{cond};
-ghost use mathlib.Core.List.{_++_};
+ghost use mathlib.Core.List.{[], _∷_, _++_};
 ghost use Prim.Native.Nat.{ℕ, _+_, _*_, _≤_, _<_};
 ghost use lib.ListN.{length, getD, take, drop};
 ghost use Rattle.base.specs.Lists.{gather};
@@ -35,6 +35,16 @@ fn exit_key(exit: bool) -> u16
     if exit { EXIT_KEY } else { 0 }
 }
 
+fn three(first: u16, second: u16, third: u16) -> Three
+    ensures { λ r. ⌜ threeOf r ≡ first ∷ second ∷ third ∷ [] ⌝ }
+{
+    Three {
+        first,
+        second,
+        third,
+    }
+}
+
 // The keys of at most two successors, then that of the exit, then 0.
 fn succ_keys(a: u16, b: u16, exit: bool, key: &[u16]) -> Three
     requires { ⌜ ((a ≡ noOffset → ⊥) → a < length (now key)) × ((a ≡ noOffset → ⊥) → (b ≡ noOffset → ⊥) → b < length (now key)) ⌝ }
@@ -42,26 +52,14 @@ fn succ_keys(a: u16, b: u16, exit: bool, key: &[u16]) -> Three
 {
     let last = exit_key(exit);
     if a == NO_OFFSET {
-        return Three {
-            first: last,
-            second: 0,
-            third: 0,
-        };
+        return three(last, 0, 0);
     }
     let first = key[wide(a)];
     if b == NO_OFFSET {
-        return Three {
-            first,
-            second: last,
-            third: 0,
-        };
+        return three(first, last, 0);
     }
     let second = key[wide(b)];
-    Three {
-        first,
-        second,
-        third: last,
-    }
+    three(first, second, last)
 }
 
 // The row of the block from l to u.
