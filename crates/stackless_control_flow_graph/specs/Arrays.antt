@@ -80,14 +80,14 @@ pub record Listing (out : List ℕ) (c : ℕ) (xs out′ : List ℕ) (r : ℕ) :
   pub front : take r out′ ≡ take c out ++ xs
   pub count : r ≡ c + length xs
 
--- the arrays of the blocks, of which there are r
-pub record Cut (code : List Bytecode) (n r : ℕ) (goes marks ls uppers : List ℕ) : Type 0 where
-  pub size : length code ≡ n
-  pub going : Going code n goes
-  pub marked : Marked code marks
-  pub front : take r ls ≡ lowers code
-  pub count : r ≡ blocksOf code
+-- the arrays of all m blocks: the successors of each offset, the lowers by offset, and the upper of each offset
+pub record Cut (code : List Bytecode) (m : ℕ) (goes ls uppers : List ℕ) : Type 0 where
+  pub going : Going code (length code) goes
+  pub places : 2 * length code ≤ length goes
+  pub front : take m ls ≡ lowers code
+  pub count : m ≡ blocksOf code
   pub upper : Uppers code uppers
+  pub offsets : length code ≤ length uppers
 
 -- ---- keys
 

@@ -1,6 +1,7 @@
 pub mod Blocks
 pub mod Backward
 pub mod BlockLaws
+pub mod Flow
 pub mod Arrays
 pub mod NextLaws
 pub mod StartLaws
@@ -10,3 +11,4 @@ pub mod OffsetLaws
 pub mod KeyLaws
 pub mod FlowLaws
 pub mod RowLaws
+pub mod CallLaws
