@@ -12,3 +12,5 @@ pub mod KeyLaws
 pub mod FlowLaws
 pub mod RowLaws
 pub mod CallLaws
+pub mod Sorting
+pub mod SortLaws
