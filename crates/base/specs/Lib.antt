@@ -9,3 +9,4 @@ pub mod PartLaws
 pub mod CopyLaws
 pub mod WriteLaws
 pub mod ByteLaws
+pub mod ReplyLaws

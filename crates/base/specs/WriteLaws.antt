@@ -1,7 +1,7 @@
 -- A loop that writes a list to the front of a lent slice, one element or one part a turn. Assumes nothing.
 use mathlib.Core.Path.{_≡_, sym, ap, _∙_}
 use mathlib.Core.List.{List, [], _∷_, _++_, append-nil, append-assoc}
-use Prim.Native.Nat.{ℕ, zero, suc, _+_, _≤_, _<_}
+use Prim.Native.Nat.{ℕ, zero, suc, _+_, _-_, _≤_, _<_}
 use native.Mathlib.Nat.{zero-add}
 use native.Mathlib.Numerals.{add-one}
 use native.Mathlib.Omega.{arith}
@@ -42,6 +42,14 @@ drop-front xs n x r e = let w = front xs n x r e in record { inside = w .0; here
 pub part-more : (w blk d : List ℕ) (a k : ℕ) → length w ≡ a
     → take a (w ++ drop a d) ++ (blk ++ drop k (drop a (w ++ drop a d))) ≡ (w ++ blk) ++ drop (a + k) d
 part-more w blk d a k e = rw (take-at w (drop a d) a e, drop-at w (drop a d) a e, drop-drop, append-assoc)
+
+-- the same for a part a .. e of a slice of which that is known
+pub part-back : (w blk d out : List ℕ) (a e : ℕ) → a ≤ e → length w ≡ a → out ≡ w ++ drop a d
+    → take a out ++ (blk ++ drop (e - a) (drop a out)) ≡ (w ++ blk) ++ drop e d
+part-back w blk d out a e h l q =
+    let size : a + (e - a) ≡ e = omega arith in
+    ap (λ (x : List ℕ). take a x ++ (blk ++ drop (e - a) (drop a x))) q ∙ part-more w blk d a (e - a) l
+    ∙ ap (λ (n : ℕ). (w ++ blk) ++ drop n d) size
 
 -- n stores from the front fill a slice of n
 pub fill : (l vs : List ℕ) → length l ≡ length vs → sets l 0 vs ≡ vs

@@ -21,7 +21,7 @@ pub data Reaches (ts : List Triple) (m : ℕ) : ℕ → Type 0 where
 
 -- ---- one edge
 
-parents-has : (ts : List Triple) (m : ℕ) → Sub m (parentsIn ts m)
+pub parents-has : (ts : List Triple) (m : ℕ) → Sub m (parentsIn ts m)
 unfolding parentsIn
 parents-has [] m = sub-refl m
 parents-has (t ∷ ts) m = sub-trans (parents-has ts m) (sub-union-r _ (parentsIn ts m))

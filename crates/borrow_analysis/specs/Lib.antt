@@ -1,3 +1,10 @@
 pub mod Graph
 pub mod Borrows
 pub mod BorrowLaws
+pub mod Answers
+pub mod GraphLaws
+pub mod Parts
+pub mod UpwardLaws
+pub mod AcceptedLaws
+pub mod AncestorLaws
+pub mod VisitLaws

@@ -1,1 +1,5 @@
 pub mod Lines
+pub mod PutLaws
+pub mod Text
+pub mod NumberLaws
+pub mod TextLaws

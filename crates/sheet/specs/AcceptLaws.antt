@@ -18,7 +18,7 @@ use Rattle.base.specs.Bytes.{number, part, u16At}
 use Rattle.sheet.specs.Layout.{userLocalsOf, parametersOf, blockAt, checkOf, countOf, localsOf, refsOf, recordBlocks, recordStart, decode, codeOf, sheetOf}
 use Rattle.stackless_bytecode.specs.Kinds.{nop, at, fallsThrough, branchDests, labelOf}
 use Rattle.stackless_bytecode.specs.Successors.{labelOffset}
-use Rattle.sheet.specs.Checks.{lengthOk, blockOk, headingOk, recordOk, placeOk, localsOk, fresh, namesOk, checkCode, checkSheet}
+use Rattle.sheet.specs.Checks.{lengthOk, blockOk, headingOk, recordOk, placeOk, localsOk, fresh, namesOk, checkForm, checkCode, checkSheet}
 use Rattle.base.specs.ListLaws.{by-test, has-in, in-has, gather-in, in-gather, getD-in, in-getD, and-true}
 use Rattle.base.specs.JoinLaws.{by-lt}
 use Rattle.stackless_bytecode.specs.SuccessorLaws.{Sound, Unique, offset-label}
@@ -112,10 +112,10 @@ names-ok code sound k h =
     (λ l i. let o = sound .named k l h i in in-has l (gather labelOf code) (gather-in labelOf code (getD-in code (labelOffset code l) nop o) (offset-label code l o)))
 
 -- checks 5 to 8 accept it
-pub code-accepted : (s : List ℕ) (code : List Bytecode) → Body (localsOf s) code → checkCode s code ≡ Accepted
+pub code-accepted : (l : ℕ) (code : List Bytecode) → Body l code → checkCode l code ≡ Accepted
 unfolding checkCode
-code-accepted s code b =
-    accept 5 _ _ (all-none (length code) 0 (λ k. localsOk (localsOf s) (at code k)) (λ j l h. b .locals j (omega arith)))
+code-accepted l code b =
+    accept 5 _ _ (all-none (length code) 0 (λ k. localsOk l (at code k)) (λ j i h. b .locals j (omega arith)))
     (accept 6 _ _ (all-none (length code) 0 (fresh code) (λ j l h. unique-fresh code (b .unique) j (omega arith)))
     (accept 7 _ _ (all-none (length code) 0 (λ k. namesOk (gather labelOf code) (at code k)) (λ j l h. names-ok code (b .sound) j (omega arith)))
     (accept 8 _ _ (all-none 1 (length code - 1) (λ k. not (fallsThrough (at code k))) (λ j l h. let s : j ≡ length code - 1 = omega arith in ap not (ap (λ (x : ℕ). fallsThrough (at code x)) s ∙ b .sound .closed))) refl)))
@@ -267,10 +267,10 @@ module _ (s : List ℕ) (e : checkSheet s ≡ Accepted) (code : List Bytecode) (
 
   -- it is accepted
   pub accepted-again : checkSheet (sheetOf (part s 6 506) code) ≡ Accepted
-  unfolding checkSheet
+  unfolding checkSheet checkForm
   accepted-again =
       accept 1 _ _ (whole-none _ length-ok)
       (accept 2 _ _ (all-none (length sheet / 512) 0 (λ b. blockOk (blockAt sheet b) b) (λ j l h. block-ok j (omega (arith, new-size))))
       (accept 3 _ _ (whole-none _ (heading-is sheet new-heading))
       (accept 4 _ _ (all-none (15 * recordBlocks (countOf sheet)) 0 (placeOk sheet) (λ j l h. place-ok j (omega (arith, ap recordBlocks same-count))))
-      (ap (checkCode sheet) same-code ∙ code-accepted sheet code (subst (λ (x : ℕ). Body x code) (sym same-locals) body)))))
+      (ap (checkCode (localsOf sheet)) same-code ∙ code-accepted (localsOf sheet) code (subst (λ (x : ℕ). Body x code) (sym same-locals) body)))))

@@ -14,7 +14,7 @@ use Rattle.base.specs.Lists.{gather, has, firstBad}
 use Rattle.sheet.specs.Layout.{blockAt, countOf, localsOf, recordBlocks, codeOf, instructionAt}
 use Rattle.stackless_bytecode.specs.Kinds.{dstsOf, srcsOf, nop, at, fallsThrough, branchDests, labelOf}
 use Rattle.stackless_bytecode.specs.Successors.{labelFrom, labelOffset}
-use Rattle.sheet.specs.Checks.{lengthOk, blockOk, headingOk, placeOk, localsOk, fresh, namesOk, checkCode, checkSheet}
+use Rattle.sheet.specs.Checks.{lengthOk, blockOk, headingOk, placeOk, localsOk, fresh, namesOk, checkForm, checkCode, checkSheet}
 use Rattle.stackless_bytecode.specs.SuccessorLaws.{Sound, label-lt}
 use Rattle.base.specs.SearchLaws.{none-all}
 use Rattle.base.specs.ListLaws.{and-true, not-true, all-in, has-in, in-gather, in-getD, length-tab}
@@ -47,7 +47,7 @@ pub record Clear (s : List ℕ) : Type 0 where
   pub padded : firstBad 1 (length (codeOf s) - 1) (λ k. not (fallsThrough (at (codeOf s) k))) ≡ none
 
 pub clear : (s : List ℕ) → checkSheet s ≡ Accepted → Clear s
-unfolding checkSheet checkCode
+unfolding checkSheet checkForm checkCode
 clear s e =
     let c1 = passed 1 _ _ e in
     let c2 = passed 2 _ _ (c1 .next) in

@@ -1,5 +1,6 @@
 pub mod Layout
 pub mod Checks
+pub mod Shaped
 pub mod CheckLaws
 pub mod EncodeLaws
 pub mod AcceptLaws
@@ -7,3 +8,9 @@ pub mod AcceptedLaws
 pub mod Valid
 pub mod BlockLaws
 pub mod RecordLaws
+pub mod LocalLaws
+pub mod Labelled
+pub mod LabelLaws
+pub mod NameLaws
+pub mod FormLaws
+pub mod WriterLaws

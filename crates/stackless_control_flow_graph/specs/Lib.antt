@@ -1,3 +1,11 @@
 pub mod Blocks
 pub mod Backward
 pub mod BlockLaws
+pub mod Arrays
+pub mod NextLaws
+pub mod StartLaws
+pub mod GivenLaws
+pub mod MoreLists
+pub mod OffsetLaws
+pub mod KeyLaws
+pub mod FlowLaws

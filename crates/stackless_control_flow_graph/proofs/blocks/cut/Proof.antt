@@ -1,0 +1,66 @@
+-- `blocks::cut` meets its contract. Assumes nothing.
+use Rattle.sheet.specs.Layout.{codeOf}
+use Prim.Native.Nat.{ℕ}
+use mathlib.Core.List.{List}
+use Rattle.stackless_bytecode.specs.declared.Bytecode.{Bytecode}
+use Rattle.stackless_control_flow_graph.specs.Arrays.{markedIn}
+use lib.ListN.{length}
+use mathlib.Core.Path.{_≡_, sym, ap, _∙_}
+use Rattle.stackless_control_flow_graph.specs.Blocks.{blocksOf, lowers}
+use Rattle.stackless_control_flow_graph.specs.OffsetLaws.{marked-lowers}
+use Rattle.stackless_control_flow_graph.specs.GivenLaws.{given-shaped, given-size}
+use native.Mathlib.Omega.{arith}
+use borrow.Author.Needs.{needs}
+use Rattle.stackless_control_flow_graph.proofs.blocks.cut.Statement.{statement}
+use Rattle.stackless_control_flow_graph.proofs.blocks.cut.Tie as tie
+use Rattle.stackless_control_flow_graph.proofs.blocks.cut.Reads as reads
+use Rattle.stackless_control_flow_graph.proofs.blocks.cut.Lts as lts
+use Rattle.stackless_control_flow_graph.proofs.blocks.find_uppers.Reads as find-uppers-reads
+use Rattle.stackless_control_flow_graph.proofs.blocks.list_lowers.Reads as list-lowers-reads
+use Rattle.stackless_control_flow_graph.proofs.starts.visit_all.Reads as visit-all-reads
+
+visit-all-requires : tie.Need-visit-all-requires
+visit-all-requires c κs = search needs
+
+find-uppers-requires : tie.Need-find-uppers-requires
+find-uppers-requires c κs = (search needs, search needs, omega (arith, given-shaped (c .before .before .before .before .before .before .before .before .before .before .before .before .before .before .before .pre .0) .few))
+
+list-lowers-requires : tie.Need-list-lowers-requires
+list-lowers-requires c κs = (omega (arith, c .before .before .before .before .before .before .before .before .before .before .before .visit-all .kept .1 .1 .1 .1 .0), search needs, omega (arith, given-shaped (c .before .before .before .before .before .before .before .before .before .before .before .before .before .before .before .before .before .before .before .before .pre .0) .few))
+
+same-length : tie.Need-same-length
+same-length c = search needs
+
+same-length-2 : tie.Need-same-length-2
+same-length-2 c = search needs
+
+same-length-3 : tie.Need-same-length-3
+same-length-3 c = search needs
+
+same-length-4 : tie.Need-same-length-4
+same-length-4 c = search needs
+
+counted : (code : List Bytecode) (xs : List ℕ) (r : ℕ) → r ≡ length xs → xs ≡ lowers code → r ≡ blocksOf code
+unfolding blocksOf
+counted code xs r e is = e ∙ ap length is
+
+returns : tie.Need-returns
+returns c = 
+    let size = given-size (c .before .before .before .before .before .before .before .before .before .before .before .before .before .before .before .before .before .before .before .before .before .before .before .pre .0) in
+    let v = c .before .before .before .before .before .before .before .before .before .before .before .before .before .before .visit-all .ensures in
+    let l = c .before .before .list-lowers .ensures in
+    let is : markedIn _ (c .before .before .before .before .before .before .before .before .before .before .before .before .before .before .before .before .before .before .before .before .before .before .before .args .n) ≡ lowers (codeOf (c .before .before .before .before .before .before .before .before .before .before .before .before .before .before .before .before .before .before .before .before .before .before .before .args .sheet .now)) = ap (markedIn _) (sym size) ∙ marked-lowers _ _ (v .1) in
+    record { size = size; going = v .0; marked = v .1; front = l .0 ∙ is; count = counted _ _ _ (l .1) is; upper = c .before .before .before .before .before .before .before .find-uppers .ensures _ size (v .1) }
+
+pub cut-spec : {M : Type 1} → statement M
+cut-spec =
+    tie.close
+    (tie.spec
+    visit-all-requires
+    find-uppers-requires
+    list-lowers-requires
+    same-length
+    same-length-2
+    same-length-3
+    same-length-4
+    returns)

@@ -1,0 +1,43 @@
+-- `blocks::list_lower` meets its contract. Assumes nothing.
+use Rattle.stackless_control_flow_graph.specs.OffsetLaws.{listing-none, listing-one}
+use borrow.Author.Tests.{ne-eqb}
+use native.Mathlib.Omega.{arith}
+use borrow.Author.Needs.{needs}
+use Rattle.stackless_control_flow_graph.proofs.blocks.list_lower.Statement.{statement}
+use Rattle.stackless_control_flow_graph.proofs.blocks.list_lower.Tie as tie
+use Rattle.stackless_control_flow_graph.proofs.blocks.list_lower.Reads as reads
+use Rattle.stackless_control_flow_graph.proofs.blocks.list_lower.Lts as lts
+use Rattle.stackless_control_flow_graph.proofs.blocks.narrow.Reads as narrow-reads
+
+narrow-requires : tie.Need-narrow-requires
+narrow-requires c κs = search needs
+
+mul-lowers : tie.Need-mul-lowers
+mul-lowers c = search needs
+
+slice-write-lowers : tie.Need-slice-write-lowers
+slice-write-lowers c = search needs
+
+add-result : tie.Need-add-result
+add-result c = search needs
+
+same-length : tie.Need-same-length
+same-length c = search needs
+
+returns : tie.Need-returns
+returns c = rw (c .before .if1 .taken, c .narrow .ensures) (listing-one _ _ _ (search needs))
+
+returns-2 : tie.Need-returns-2
+returns-2 c = rw (ne-eqb _ _ (c .if1 .left)) (listing-none _ _)
+
+pub list-lower-spec : {M : Type 1} → statement M
+list-lower-spec =
+    tie.close
+    (tie.spec
+    narrow-requires
+    mul-lowers
+    slice-write-lowers
+    add-result
+    same-length
+    returns
+    returns-2)

@@ -1,0 +1,115 @@
+-- `starts::visit` meets its contract. Assumes nothing.
+use mathlib.Core.List.{List·Memᴰ·cases-cons}
+use mathlib.Core.Logic.{⊎-elim}
+use Rattle.sheet.specs.Layout.{codeOf}
+use Rattle.stackless_bytecode.specs.Successors.{successors}
+use Rattle.stackless_control_flow_graph.specs.Arrays.{listOf}
+use Rattle.stackless_bytecode.specs.SlotLaws.{Below}
+use mathlib.Core.Path.{_≡_, refl, sym, _∙_}
+use Rattle.sheet.specs.Shaped.{record-inside}
+use Rattle.stackless_control_flow_graph.specs.GivenLaws.{given-shaped, next-is, next-within, visit-quiet, visit-branch}
+use native.Mathlib.Omega.{arith}
+use borrow.Author.Needs.{needs}
+use Rattle.stackless_control_flow_graph.proofs.starts.visit.Statement.{statement}
+use Rattle.stackless_control_flow_graph.proofs.starts.visit.Tie as tie
+use Rattle.stackless_control_flow_graph.proofs.starts.visit.Reads as reads
+use Rattle.stackless_control_flow_graph.proofs.starts.visit.Lts as lts
+use Rattle.sheet.proofs.reader.instruction_at.Reads as instruction-at-reads
+use Rattle.stackless_bytecode.proofs.Bytecode.is_branch.Reads as is-branch-reads
+use Rattle.stackless_control_flow_graph.proofs.next.by_kind.Reads as by-kind-reads
+use Rattle.stackless_control_flow_graph.proofs.starts.mark.Reads as mark-reads
+use Rattle.stackless_control_flow_graph.proofs.starts.narrow.Reads as narrow-reads
+use Rattle.stackless_control_flow_graph.proofs.starts.put_two.Reads as put-two-reads
+
+instruction-at-requires : tie.Need-instruction-at-requires
+instruction-at-requires c κs = (record-inside (given-shaped (c .before .before .before .before .pre .0)) _ (search needs), omega (arith, given-shaped (c .before .before .before .before .pre .0) .few))
+
+mul-at : tie.Need-mul-at
+mul-at c = search needs
+
+add-next : tie.Need-add-next
+add-next c = search needs
+
+mul-by-kind : tie.Need-mul-by-kind
+mul-by-kind c = search needs
+
+shared-slice-read-by-kind : tie.Need-shared-slice-read-by-kind
+shared-slice-read-by-kind c = search needs
+
+add-by-kind : tie.Need-add-by-kind
+add-by-kind c = search needs
+
+mul-by-kind-2 : tie.Need-mul-by-kind-2
+mul-by-kind-2 c = search needs
+
+shared-slice-read-by-kind-2 : tie.Need-shared-slice-read-by-kind-2
+shared-slice-read-by-kind-2 c = search needs
+
+narrow-requires : tie.Need-narrow-requires
+narrow-requires c κs = omega (arith, given-shaped (c .before .before .before .before .before .before .before .pre .0) .few)
+
+by-kind-requires : tie.Need-by-kind-requires
+by-kind-requires c κs = search needs
+
+put-two-requires : tie.Need-put-two-requires
+put-two-requires c κs = search needs
+
+is-branch-requires : tie.Need-is-branch-requires
+is-branch-requires c κs = search needs
+
+-- the record that is read has labels of 16 bits
+below : (c : tie.After-instruction-at) → Below (c .instruction-at .result)
+below c = record { one = search needs; two = search needs }
+
+succs-are : (c : tie.After-by-kind) → listOf (c .by-kind .result) ≡ successors (codeOf (c .before .before .before .before .before .before .before .before .before .args .sheet .now)) (c .before .before .before .before .before .before .before .before .before .args .k)
+succs-are c =
+    next-is (c .before .before .before .before .before .before .before .before .before .pre .0) (c .before .before .before .before .before .before .before .before .before .args .k) (c .before .before .before .before .before .before .before .before .before .pre .1) (c .before .before .before .before .instruction-at .result) (c .before .before .before .before .instruction-at .ensures) (below (c .before .before .before .before)) (c .by-kind .result) (c .before .narrow .result) (c .before .narrow .ensures) (c .by-kind .ensures)
+
+mark-requires : tie.Need-mark-requires
+mark-requires c κs = 
+    let w = next-within (c .before .before .before .before .before .before .before .before .before .before .before .before .before .before .before .before .pre .0) (c .before .before .before .before .before .before .before .before .before .before .before .before .before .before .before .before .args .k) (c .before .before .before .before .before .before .before .before .before .before .before .before .before .before .before .before .pre .1) (c .before .before .before .before .before .before .before .before .before .before .before .instruction-at .result) (c .before .before .before .before .before .before .before .before .before .before .before .instruction-at .ensures) (below (c .before .before .before .before .before .before .before .before .before .before .before)) (c .before .before .before .before .before .before .before .by-kind .result) (succs-are (c .before .before .before .before .before .before .before)) in
+    record { each = λ x i. ⊎-elim (λ e. omega arith) (λ t. omega (arith, w .each x t)) (List·Memᴰ·cases-cons i) }
+
+same-length : tie.Need-same-length
+same-length c = search needs
+
+same-length-2 : tie.Need-same-length-2
+same-length-2 c = search needs
+
+returns : tie.Need-returns
+returns c = 
+    rw (c .before .before .before .before .before .before .before .before .put-two .ensures, c .before .before .mark .ensures)
+    (visit-branch (c .before .before .before .before .before .before .before .before .before .before .before .before .before .before .before .before .before .before .before .pre .0) (c .before .before .before .before .before .before .before .before .before .before .before .before .before .before .before .before .before .before .before .args .k) (c .before .before .before .before .before .before .before .before .before .before .before .before .before .before .before .before .before .before .before .pre .1) (c .before .before .before .before .before .before .before .before .before .before .before .before .before .before .instruction-at .result) (c .before .before .before .before .before .before .before .before .before .before .before .before .before .before .instruction-at .ensures) (below (c .before .before .before .before .before .before .before .before .before .before .before .before .before .before)) _ _ (c .before .before .before .before .before .before .before .before .before .before .by-kind .result) (search needs) (search needs) (succs-are (c .before .before .before .before .before .before .before .before .before .before))
+    (sym (c .before .before .before .before .before .is-branch .ensures) ∙ c .before .before .before .before .if1 .taken))
+
+same-length-3 : tie.Need-same-length-3
+same-length-3 c = search needs
+
+returns-2 : tie.Need-returns-2
+returns-2 c = 
+    rw (c .before .before .before .before .put-two .ensures)
+    (visit-quiet (c .before .before .before .before .before .before .before .before .before .before .before .before .before .before .before .pre .0) (c .before .before .before .before .before .before .before .before .before .before .before .before .before .before .before .args .k) (c .before .before .before .before .before .before .before .before .before .before .before .before .before .before .before .pre .1) (c .before .before .before .before .before .before .before .before .before .before .instruction-at .result) (c .before .before .before .before .before .before .before .before .before .before .instruction-at .ensures) (below (c .before .before .before .before .before .before .before .before .before .before)) _ _ (c .before .before .before .before .before .before .by-kind .result) (search needs) (succs-are (c .before .before .before .before .before .before))
+    (sym (c .before .is-branch .ensures) ∙ c .if1 .left))
+
+pub visit-spec : {M : Type 1} → statement M
+visit-spec =
+    tie.close
+    (tie.spec
+    instruction-at-requires
+    mul-at
+    add-next
+    mul-by-kind
+    shared-slice-read-by-kind
+    add-by-kind
+    mul-by-kind-2
+    shared-slice-read-by-kind-2
+    narrow-requires
+    by-kind-requires
+    put-two-requires
+    is-branch-requires
+    mark-requires
+    same-length
+    same-length-2
+    returns
+    same-length-3
+    returns-2)

@@ -1,0 +1,70 @@
+-- `starts::visit_all` meets its contract: at each turn, the instructions passed are visited. Assumes nothing.
+use mathlib.Core.Path.{_≡_, refl, sym, subst, _∙_}
+use Prim.Native.Nat.{_≤_, _-_}
+use lib.ListN.{length, length-set}
+use Rattle.sheet.specs.Layout.{codeOf}
+use Rattle.stackless_control_flow_graph.specs.GivenLaws.{given-size, marks-begin}
+use Rattle.stackless_control_flow_graph.specs.StartLaws.{marks-end}
+use Rattle.stackless_control_flow_graph.specs.Arrays.{Going, Marking}
+use borrow.Author.Needs.{needs}
+use native.Mathlib.Omega.{arith}
+use Rattle.stackless_control_flow_graph.proofs.starts.visit_all.Statement.{statement}
+use Rattle.stackless_control_flow_graph.proofs.starts.visit_all.Tie as tie
+use Rattle.stackless_control_flow_graph.proofs.starts.visit_all.Reads as reads
+use Rattle.stackless_control_flow_graph.proofs.starts.visit_all.Lts as lts
+use Rattle.stackless_control_flow_graph.proofs.starts.visit.Reads as visit-reads
+
+abbrev Inv-loop : tie.InvT-loop
+Inv-loop sheet n targets goes₀ marks₀ k₀ goes marks k = (k ≤ n) × (length goes ≡ length goes₀) × (length marks ≡ length marks₀) × Going (codeOf sheet) k goes × Marking (codeOf sheet) k marks
+
+abbrev μ-loop : tie.MeasureT-loop
+μ-loop sheet n targets goes₀ marks₀ k₀ goes marks k = n - k
+
+slice-write-marks : tie.Need-slice-write-marks Inv-loop μ-loop
+slice-write-marks c = search needs
+
+loop-holds : tie.Need-loop-holds Inv-loop μ-loop
+loop-holds c = (search needs, refl, refl, record { each = λ j h. absurd (omega arith) }, marks-begin (c .before .before .before .before .args .sheet .now) (c .before .before .before .before .args .marks .now) (omega arith) (c .before .before .before .before .pre .3))
+
+visit-requires : tie.Need-visit-requires Inv-loop μ-loop
+visit-requires c κs = (c .before .before .before .before .before .before .before .before .pre .0, search needs, omega (arith, c .before .before .before .loop .inv .1), omega (arith, c .before .before .before .loop .inv .2, length-set (c .before .before .before .before .before .before .before .before .args .marks .now) 0 1))
+
+add-k : tie.Need-add-k Inv-loop μ-loop
+add-k c = search needs
+
+loop-less : tie.Need-loop-less Inv-loop μ-loop
+loop-less c = search needs
+
+loop-again : tie.Need-loop-again Inv-loop μ-loop
+loop-again c = 
+    let v = c .before .before .before .before .visit in
+    let i = c .before .before .before .before .before .before .before .before .loop .inv in
+    (search needs, v .kept .1 .1 .1 .1 .0 ∙ i .1, v .kept .1 .1 .1 .1 .1 .0 ∙ i .2, v .ensures .going (i .3), v .ensures .marking (i .4))
+
+same-length : tie.Need-same-length Inv-loop μ-loop
+same-length c = c .before .loop .inv .1
+
+same-length-2 : tie.Need-same-length-2 Inv-loop μ-loop
+same-length-2 c = c .before .loop .inv .2 ∙ length-set (c .before .before .before .before .before .before .args .marks .now) 0 1
+
+returns : tie.Need-returns Inv-loop μ-loop
+returns c = 
+    let n : c .before .loop .k ≡ c .before .before .before .before .before .before .args .n = omega arith in
+    let size = given-size (c .before .before .before .before .before .before .pre .0) in
+    (rw (← n) (c .before .loop .inv .3), marks-end _ _ (rw (size, ← n) (c .before .loop .inv .4)))
+
+pub visit-all-spec : {M : Type 1} → statement M
+visit-all-spec =
+    tie.close
+    (tie.spec
+    Inv-loop
+    μ-loop
+    slice-write-marks
+    loop-holds
+    visit-requires
+    add-k
+    loop-less
+    loop-again
+    same-length
+    same-length-2
+    returns)

@@ -1,0 +1,151 @@
+-- What the arrays hold that the blocks are worked out in. Assumes nothing.
+use mathlib.Core.Path.{_≡_}
+use mathlib.Core.Bool.{true, cond}
+use mathlib.Core.List.{List, [], _∷_, _++_, List·Memᴰ}
+use Prim.Native.Nat.{ℕ, suc, _+_, _*_, _≤_, _<_}
+use lib.Dec.{eqb}
+use lib.ListN.{getD, set, length, take}
+use Rattle.base.specs.Lists.{keep, has, over, firsts}
+use Rattle.base.specs.ListLaws.{Distinct}
+use Rattle.base.specs.Refusals.{Accepted}
+use Rattle.stackless_bytecode.specs.declared.Bytecode.{Bytecode}
+use Rattle.stackless_bytecode.specs.Kinds.{at, isBranch, fallsThrough, branchDests}
+use Rattle.stackless_bytecode.specs.Successors.{ascending, successors}
+use Rattle.stackless_bytecode.specs.Slots.{Resolved}
+use Rattle.sheet.specs.Layout.{countOf, codeOf}
+use Rattle.sheet.specs.Checks.{checkSheet}
+use Rattle.stackless_control_flow_graph.specs.declared.Successors.{Successors}
+use Rattle.stackless_control_flow_graph.specs.Blocks.{starts, lowers, blocksOf, lowerOf, upperOf, keyed, keyOf}
+
+-- ---- the successors of an offset
+
+-- none, one or two offsets by value
+abbrev pub listOf : Successors → List ℕ
+listOf p = take (p .count) (p .first ∷ p .second ∷ [])
+
+-- the successors of an instruction whose labels stand at `one` and `two`, and behind which `next` stands
+unfoldable pub succsBy : Bytecode → ℕ → ℕ → ℕ → List ℕ
+succsBy r one two next = ascending (take (length (branchDests r)) (one ∷ two ∷ []) ++ cond (fallsThrough r) (next ∷ []) [])
+
+-- ---- arrays by offset
+
+-- stands for no offset
+abbrev pub noOffset : ℕ
+noOffset = 65535
+
+-- at most two offsets, noOffset filling up
+unfoldable pub pairOf : ℕ → ℕ → List ℕ
+pairOf a b = cond (eqb a noOffset) [] (a ∷ cond (eqb b noOffset) [] (b ∷ []))
+
+-- the two places of offset k
+abbrev pub succsIn : List ℕ → ℕ → List ℕ
+succsIn goes k = pairOf (getD goes (2 * k) 0) (getD goes (2 * k + 1) 0)
+
+-- these two offsets at most, put there
+abbrev pub putTwo : List ℕ → ℕ → List ℕ → List ℕ
+putTwo goes k xs = set (set goes (2 * k) (getD xs 0 noOffset)) (2 * k + 1) (getD xs 1 noOffset)
+
+-- 1 put at each of these offsets
+unfoldable pub markAll : List ℕ → List ℕ → List ℕ
+markAll marks xs = over (λ m x. set m x 1) marks xs
+
+-- each is below n
+pub record Within (n : ℕ) (xs : List ℕ) : Type 0 where
+  pub each : (x : ℕ) → List·Memᴰ x xs → x < n
+
+-- the successors of each offset below k
+pub record Going (code : List Bytecode) (k : ℕ) (goes : List ℕ) : Type 0 where
+  pub each : (j : ℕ) → j < k → succsIn goes j ≡ successors code j
+
+-- 1 where a block starts
+pub record Marked (code : List Bytecode) (marks : List ℕ) : Type 0 where
+  pub each : (k : ℕ) → k < length code → eqb (getD marks k 0) 1 ≡ starts code k
+
+-- the offsets below n that are marked
+unfoldable pub markedIn : List ℕ → ℕ → List ℕ
+markedIn marks n = keep n 0 (λ k. eqb (getD marks k 0) 1)
+
+-- the upper of the block of each offset
+pub record Uppers (code : List Bytecode) (uppers : List ℕ) : Type 0 where
+  pub each : (k : ℕ) → k < length code → getD uppers k 0 ≡ upperOf code k
+
+-- the lower of the block of each offset
+pub record Heads (code : List Bytecode) (heads : List ℕ) : Type 0 where
+  pub each : (k : ℕ) → k < length code → getD heads k 0 ≡ lowerOf code k
+
+-- these few more behind the first c: then there are r
+pub record Listing (out : List ℕ) (c : ℕ) (xs out′ : List ℕ) (r : ℕ) : Type 0 where
+  pub front : take r out′ ≡ take c out ++ xs
+  pub count : r ≡ c + length xs
+
+-- the arrays of the blocks, of which there are r
+pub record Cut (code : List Bytecode) (n r : ℕ) (goes marks ls uppers : List ℕ) : Type 0 where
+  pub size : length code ≡ n
+  pub going : Going code n goes
+  pub marked : Marked code marks
+  pub front : take r ls ≡ lowers code
+  pub count : r ≡ blocksOf code
+  pub upper : Uppers code uppers
+
+-- ---- keys
+
+-- the key of offset o where `ks` have keys, and 0 where it has none
+unfoldable pub keyIn : List ℕ → ℕ → ℕ
+keyIn ks o = cond (has o ks) (keyOf ks o) 0
+
+-- the first c of `by` have keys, and each offset has its own in `key`
+pub record Keys (key by : List ℕ) (c : ℕ) : Type 0 where
+  pub each : (o : ℕ) → o < length key → getD key o 0 ≡ keyIn (take c by) o
+  pub once : Distinct (take c by)
+  pub within : Within (length key) (take c by)
+  pub inside : c ≤ length by
+
+-- keys for these offsets, in their order, to those that have none yet
+pub record Gives (xs key by : List ℕ) (c : ℕ) (key′ by′ : List ℕ) (r : ℕ) : Type 0 where
+  pub keys : Keys key′ by′ r
+  pub front : take r by′ ≡ firsts (take c by) xs
+
+-- the block from l to u and its successors are offsets below n
+pub record Near (n : ℕ) (goes : List ℕ) (l u : ℕ) : Type 0 where
+  pub self : l < n
+  pub first : (getD goes (2 * u) 0 ≡ noOffset → ⊥) → getD goes (2 * u) 0 < n
+  pub second : (getD goes (2 * u) 0 ≡ noOffset → ⊥) → (getD goes (2 * u + 1) 0 ≡ noOffset → ⊥) → getD goes (2 * u + 1) 0 < n
+
+-- what takes keys at the block from l on: its successors, then the block
+unfoldable pub takers : List ℕ → List ℕ → ℕ → List ℕ
+takers goes uppers l = succsIn goes (getD uppers l 0) ++ (l ∷ [])
+
+-- the arrays have all that is asked of the m blocks, and its offsets are below n
+pub record Ready (goes ls uppers : List ℕ) (m n : ℕ) : Type 0 where
+  pub blocks : m ≤ length ls
+  pub lower : (b : ℕ) → b < m → getD ls b 0 < n
+  pub upper : (b : ℕ) → b < m → getD ls b 0 < length uppers
+  pub places : (b : ℕ) → b < m → 2 * getD uppers (getD ls b 0) 0 + 1 < length goes
+  pub next : (b : ℕ) → b < m → Within n (succsIn goes (getD uppers (getD ls b 0) 0))
+
+-- the keys of all r blocks: the lowers in the order of their keys, and the key of each; nothing else has one
+pub record Numbered (code : List Bytecode) (key order : List ℕ) (r : ℕ) : Type 0 where
+  pub front : take r order ≡ keyed code
+  pub count : r ≡ blocksOf code
+  pub each : (o : ℕ) → o < length key → getD key o 0 ≡ keyIn (keyed code) o
+
+-- ---- the pass over the instructions
+
+-- what is marked once the first k instructions are visited
+pub record Marking (code : List Bytecode) (k : ℕ) (marks : List ℕ) : Type 0 where
+  pub sound : (j : ℕ) → j < length code → getD marks j 0 ≡ 1 → starts code j ≡ true
+  pub entry : getD marks 0 0 ≡ 1
+  pub behind : (j : ℕ) → j < k → suc j < length code → isBranch (at code j) ≡ true → getD marks (suc j) 0 ≡ 1
+  pub named : (j o : ℕ) → j < k → isBranch (at code j) ≡ true → List·Memᴰ o (successors code j) → getD marks o 0 ≡ 1
+
+-- what a step of the pass over the instructions does to both arrays
+pub record Visits (code : List Bytecode) (k : ℕ) (goes marks goes′ marks′ : List ℕ) : Type 0 where
+  pub going : Going code k goes → Going code (k + 1) goes′
+  pub marking : Marking code k marks → Marking code (k + 1) marks′
+
+-- ---- what the code is given: an accepted sheet of n instructions, and the offsets of the labels that it names
+pub record Given (s : List ℕ) (n : ℕ) (targets : List ℕ) : Type 0 where
+  pub accepted : checkSheet s ≡ Accepted
+  pub count : n ≡ countOf s
+  pub resolved : Resolved (codeOf s) targets
+  pub slots : 2 * n ≤ length targets

@@ -1,0 +1,99 @@
+// The blocks by offset: the lower of each, and the lower and the upper of the block that an offset stands in. Assumes nothing.
+ghost use mathlib.Core.Path.{_≡_};
+ghost use mathlib.Core.Bool.{cond};
+ghost use mathlib.Core.List.{List, [], _∷_, _++_};
+ghost use Prim.Native.Nat.{ℕ, _+_, _*_, _≤_, _<_};
+ghost use lib.Dec.{eqb};
+ghost use lib.ListN.{length, getD, take};
+ghost use Rattle.stackless_bytecode.specs.declared.Bytecode.{Bytecode};
+ghost use Rattle.sheet.specs.Layout.{codeOf};
+ghost use Rattle.stackless_control_flow_graph.specs.Arrays.{markedIn, Marked, Uppers, Heads, Listing, Given, Cut};
+use super::starts::visit_all;
+
+fn narrow(x: usize) -> u16
+    requires { ⌜ x < 65536 ⌝ }
+    ensures { λ r. ⌜ r ≡ x ⌝ }
+{
+    x as u16
+}
+
+// Offset k behind the c lowers, where it is marked; how many there are then.
+fn list_lower(lowers: &mut [u16], c: usize, k: usize, mark: u8) -> usize
+    requires { ⌜ (c < length (now lowers)) × (k < 65536) ⌝ }
+    ensures { λ r. ⌜ Listing (now (lowers .entry)) c (cond (eqb mark 1) (k ∷ []) []) (now (lowers .exit)) r ⌝ }
+{
+    if mark == 1 {
+        lowers[c] = narrow(k);
+        return c + 1;
+    }
+    c
+}
+
+// The lower of each block, by offset, to the front of `lowers`; how many blocks.
+pub fn list_lowers(marks: &[u8], n: usize, lowers: &mut [u16]) -> usize
+    requires { ⌜ (n ≤ length (now marks)) × (n ≤ length (now lowers)) × (n < 65536) ⌝ }
+    ensures { λ r. ⌜ (take r (now (lowers .exit)) ≡ markedIn (now (marks .entry)) n) × (r ≡ length (markedIn (now (marks .entry)) n)) × (r ≤ n) ⌝ }
+{
+    let mut c = 0;
+    let mut k = 0;
+    while k < n {
+        c = list_lower(lowers, c, k, marks[k]);
+        k += 1;
+    }
+    c
+}
+
+fn pick(mark: u8, k: usize, other: usize) -> usize
+    ensures { λ r. ⌜ r ≡ cond (eqb mark 1) k other ⌝ }
+{
+    if mark == 1 {
+        return k;
+    }
+    other
+}
+
+// The upper of the block of each offset, from the last offset to the first.
+pub fn find_uppers(marks: &[u8], n: usize, uppers: &mut [u16])
+    requires { ⌜ (n ≤ length (now marks)) × (n ≤ length (now uppers)) × (n < 65536) ⌝ }
+    ensures { λ _. ⌜ ((code : List Bytecode) → length code ≡ n → Marked code (now (marks .entry)) → Uppers code (now (uppers .exit))) ⌝ }
+{
+    let mut end = n;
+    let mut k = n;
+    while k > 0 {
+        k -= 1;
+        uppers[k] = narrow(end - 1);
+        end = pick(marks[k], k, end);
+    }
+}
+
+// The lower of the block of each offset.
+pub fn find_heads(marks: &[u8], n: usize, heads: &mut [u16])
+    requires { ⌜ (n ≤ length (now marks)) × (n ≤ length (now heads)) × (n < 65536) ⌝ }
+    ensures { λ _. ⌜ ((code : List Bytecode) → length code ≡ n → Marked code (now (marks .entry)) → Heads code (now (heads .exit))) ⌝ }
+{
+    let mut head = 0;
+    let mut k = 0;
+    while k < n {
+        head = pick(marks[k], k, head);
+        heads[k] = narrow(head);
+        k += 1;
+    }
+}
+
+// The successors of every offset, where blocks start, the lowers by offset and the upper of every offset; how many blocks.
+pub fn cut(
+    sheet: &[u8],
+    n: usize,
+    targets: &[u16],
+    goes: &mut [u16],
+    marks: &mut [u8],
+    lowers: &mut [u16],
+    uppers: &mut [u16],
+) -> usize
+    requires { ⌜ Given (now sheet) n (now targets) × (2 * n ≤ length (now goes)) × (n < length (now marks)) × ((j : ℕ) → getD (now marks) j 0 ≡ 0) × (n ≤ length (now lowers)) × (n ≤ length (now uppers)) ⌝ }
+    ensures { λ r. ⌜ Cut (codeOf (now (sheet .entry))) n r (now (goes .exit)) (now (marks .exit)) (now (lowers .exit)) (now (uppers .exit)) ⌝ }
+{
+    visit_all(sheet, n, targets, goes, marks);
+    find_uppers(marks, n, uppers);
+    list_lowers(marks, n, lowers)
+}

@@ -1,0 +1,107 @@
+// One pass over the instructions: the successors of each offset, and where blocks start. Assumes nothing.
+ghost use mathlib.Core.Path.{_≡_};
+ghost use mathlib.Core.List.{_∷_};
+ghost use Prim.Native.Nat.{ℕ, _+_, _*_, _≤_, _<_};
+ghost use lib.ListN.{length, getD};
+ghost use Rattle.sheet.specs.Layout.{codeOf};
+ghost use Rattle.stackless_control_flow_graph.specs.Arrays.{noOffset, listOf, putTwo, markAll, Within, Going, Marked, Visits, Given};
+use super::Successors;
+use super::next::by_kind;
+use sheet::reader;
+
+// Stands for no offset.
+pub const NO_OFFSET: u16 = 65535;
+
+fn wide(x: u16) -> usize
+    ensures { λ r. ⌜ r ≡ x ⌝ }
+{
+    x as usize
+}
+
+fn narrow(x: usize) -> u16
+    requires { ⌜ x < 65536 ⌝ }
+    ensures { λ r. ⌜ r ≡ x ⌝ }
+{
+    x as u16
+}
+
+fn first_of(e: Successors) -> u16
+    ensures { λ r. ⌜ r ≡ getD (listOf e) 0 noOffset ⌝ }
+{
+    if e.count == 0 {
+        return NO_OFFSET;
+    }
+    e.first
+}
+
+fn second_of(e: Successors) -> u16
+    ensures { λ r. ⌜ r ≡ getD (listOf e) 1 noOffset ⌝ }
+{
+    if e.count <= 1 {
+        return NO_OFFSET;
+    }
+    e.second
+}
+
+// The successors of offset k into its two places.
+fn put_two(goes: &mut [u16], k: usize, e: Successors)
+    requires { ⌜ (2 * k + 1 < length (now goes)) × (k < 65536) ⌝ }
+    ensures { λ _. ⌜ now (goes .exit) ≡ putTwo (now (goes .entry)) k (listOf e) ⌝ }
+{
+    let at = 2 * k;
+    goes[at] = first_of(e);
+    goes[at + 1] = second_of(e);
+}
+
+// Blocks start at `next` and at these successors.
+fn mark(marks: &mut [u8], next: usize, e: Successors)
+    requires { ⌜ Within (length (now marks)) (next ∷ listOf e) ⌝ }
+    ensures { λ _. ⌜ now (marks .exit) ≡ markAll (now (marks .entry)) (next ∷ listOf e) ⌝ }
+{
+    marks[next] = 1;
+    if e.count == 0 {
+        return;
+    }
+    let first = wide(e.first);
+    marks[first] = 1;
+    if e.count == 1 {
+        return;
+    }
+    let second = wide(e.second);
+    marks[second] = 1;
+}
+
+// The successors of offset k into their places, and the blocks that it starts.
+fn visit(
+    sheet: &[u8],
+    n: usize,
+    targets: &[u16],
+    k: usize,
+    goes: &mut [u16],
+    marks: &mut [u8],
+)
+    requires { ⌜ Given (now sheet) n (now targets) × (k < n) × (2 * n ≤ length (now goes)) × (n < length (now marks)) ⌝ }
+    ensures { λ _. ⌜ Visits (codeOf (now (sheet .entry))) k (now (goes .entry)) (now (marks .entry)) (now (goes .exit)) (now (marks .exit)) ⌝ }
+{
+    let r = reader::instruction_at(sheet, k);
+    let at = 2 * k;
+    let next = k + 1;
+    let e = by_kind(r, targets[at], targets[at + 1], narrow(next));
+    put_two(goes, k, e);
+    if r.is_branch() {
+        mark(marks, next, e);
+    }
+}
+
+// The successors of every offset, and 1 where a block starts: at 0, at the successors of whatever branches, and behind it.
+pub fn visit_all(sheet: &[u8], n: usize, targets: &[u16], goes: &mut [u16], marks: &mut [u8])
+    requires { ⌜ Given (now sheet) n (now targets) × (2 * n ≤ length (now goes)) × (n < length (now marks)) × ((j : ℕ) → getD (now marks) j 0 ≡ 0) ⌝ }
+    ensures { λ _. ⌜ Going (codeOf (now (sheet .entry))) n (now (goes .exit)) × Marked (codeOf (now (sheet .entry))) (now (marks .exit)) ⌝ }
+{
+    marks[0] = 1;
+    let mut k = 0;
+    while k < n {
+        visit(sheet, n, targets, k, goes, marks);
+        k += 1;
+    }
+}
