@@ -3,9 +3,7 @@ use mathlib.Core.Path.{_≡_, sym, ap, _∙_}
 use Prim.Native.Nat.{ℕ, _-_, _≤_}
 use lib.ListN.{getD}
 use Rattle.dataflow_domains.specs.Sets.{mask, setAt}
-use Rattle.stackless_control_flow_graph.specs.Blocks.{keyed}
-use Rattle.livevar_analysis.specs.Analysis.{outOf}
-use Rattle.livevar_analysis.specs.EngineLaws.{out-dummy, upper-inside, out-block}
+use Rattle.livevar_analysis.specs.EngineLaws.{out-dummy, out-block}
 use native.Mathlib.Omega.{arith}
 use borrow.Author.Needs.{needs}
 use Rattle.livevar_analysis.proofs.engine.out_of.Statement.{statement}
