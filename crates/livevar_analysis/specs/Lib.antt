@@ -18,3 +18,5 @@ pub mod Output
 pub mod OutputLaws
 pub mod LiveCall
 pub mod LiveCallLaws
+pub mod Prepared
+pub mod PreparedLaws
