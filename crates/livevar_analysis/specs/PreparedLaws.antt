@@ -1,30 +1,32 @@
 -- A run over the tables of an accepted sheet gives what the definition gives. Assumes nothing.
-use mathlib.Core.Path.{_≡_, refl, sym, ap, _∙_, subst}
+use mathlib.Core.Path.{_≡_, sym, ap, _∙_, subst}
 use mathlib.Core.List.{List, _++_}
-use Prim.Native.Nat.{ℕ, suc, _+_, _*_, _≤_, _<_}
+use Prim.Native.Nat.{ℕ, _+_, _-_, _*_, _≤_, _<_}
 use native.Mathlib.Omega.{arith}
 use native.Mathlib.Nat.{mul-comm, mul-le-mul-left, mul-suc}
-use lib.ListN.{getD, length, drop}
-use Rattle.base.specs.Sizes.{setWords, setBytes}
+use lib.ListN.{getD, length, take, drop, replicate, length-take, length-replicate, List·getD-eq-default}
+use lib.Seq.{getD-take}
+use Rattle.base.specs.Sizes.{setWords, setBytes, maxInstructions, maxTaken}
 use Rattle.base.specs.Bytes.{u16At}
-use Rattle.base.specs.ListLaws.{place-lt}
-use Rattle.base.specs.Lists.{place}
+use Rattle.base.specs.ListLaws.{copies-at, place-lt}
+use Rattle.base.specs.JoinLaws.{by-lt}
 use Rattle.dataflow_domains.specs.SliceLaws.{masks-length}
 use Rattle.dataflow_domains.specs.Sets.{setsOf}
-use Rattle.dataflow_analysis.specs.Worklist.{State}
-use Rattle.dataflow_analysis.specs.MaskList.{masks}
 use Rattle.stackless_bytecode.specs.declared.Bytecode.{Bytecode}
 use Rattle.sheet.specs.Layout.{countOf, codeOf, localsOf}
-use Rattle.sheet.specs.CheckLaws.{code-length}
+use Rattle.sheet.specs.CheckLaws.{code-length, code-sound}
+use Rattle.sheet.specs.Checks.{checkSheet}
+use Rattle.base.specs.Refusals.{Accepted}
 use Rattle.sheet.specs.Valid.{accepted-valid}
-use Rattle.stackless_control_flow_graph.specs.Blocks.{lowerOf, keyed, keyOf}
+use Rattle.stackless_control_flow_graph.specs.Blocks.{starts, lowerOf, keyed, keyOf}
 use Rattle.stackless_control_flow_graph.specs.BlockLaws.{lower-starts, lower-le, keyed-in}
-use Rattle.livevar_analysis.specs.Analysis.{analyzeFunction, Analyzed, analyze, liveBytes}
+use Rattle.livevar_analysis.specs.Analysis.{analyzeFunction, analyze, liveBytes}
 use Rattle.livevar_analysis.specs.Rules.{Ruled, RuleRoom}
-use Rattle.livevar_analysis.specs.Engine.{Tables, Input, CanSolve, Solved}
+use Rattle.livevar_analysis.specs.Engine.{Input, CanSolve, Solved}
 use Rattle.livevar_analysis.specs.InputLaws.{analyzable}
 use Rattle.livevar_analysis.specs.Output.{infosBy, BlockRoom, Blocked}
 use Rattle.livevar_analysis.specs.OutputLaws.{infos-live}
+use Rattle.livevar_analysis.specs.RunLaws.{keys-few}
 use Rattle.livevar_analysis.specs.Prepared.{Prepared, Blank, LiveWritten}
 
 -- the key of an offset's block is one of the keys
@@ -95,3 +97,28 @@ module _ {s kills gens assigns preds starts order ups marks keys : List ℕ} (p 
           keys-in = λ k h. omega (arith, long, p .keys-are k h, key-inside (codeOf s) k h);
           sets-are = ap (λ (x : ℕ). setsOf x sets′) long ∙ solved .final;
         }
+
+-- ---- blank arrays
+
+-- an accepted sheet has no more blocks than instructions
+pub few-keys : (s : List ℕ) → checkSheet s ≡ Accepted → length (keyed (codeOf s)) ≤ maxInstructions
+few-keys s e = omega (arith, keys-few (codeOf s) (code-sound s e), code-length s, accepted-valid s e .few)
+
+part-blank : (m n k : ℕ) → getD (take m (replicate {A = ℕ} n 0)) k 0 ≡ 0
+part-blank m n k =
+    by-lt k m (λ h. getD-take m (replicate n 0) k 0 h ∙ copies-at n k 0)
+    (λ h. List·getD-eq-default (take m (replicate n 0)) 0 {n = k} (omega (arith, length-take m (replicate {A = ℕ} n 0))))
+
+pub blank : (s out : List ℕ) (m : ℕ) → checkSheet s ≡ Accepted → m ≡ length (keyed (codeOf s)) → 2 * setBytes * length (codeOf s) ≤ length out
+    → Blank s (replicate ((maxInstructions + 2) * setWords) 0) (take (m + 2 - 0) (drop 0 (replicate (maxInstructions + 2) 0))) (replicate maxTaken 0) out
+blank s out m e q fits = record {
+  nodes = long;
+  sets-fit = omega (arith, ap (λ (x : ℕ). x * setWords) long, few-keys s e, length-replicate {A = ℕ} ((maxInstructions + 2) * setWords) 0);
+  list-long = length-replicate {A = ℕ} maxTaken 0;
+  sets-blank = λ k. copies-at ((maxInstructions + 2) * setWords) k 0;
+  met-blank = part-blank (m + 2 - 0) (maxInstructions + 2);
+  out-fits = fits;
+}
+  where
+    long : length (take (m + 2 - 0) (drop 0 (replicate {A = ℕ} (maxInstructions + 2) 0))) ≡ 2 + length (keyed (codeOf s))
+    long = length-take (m + 2 - 0) (replicate (maxInstructions + 2) 0) ∙ (omega (arith, few-keys s e, length-replicate {A = ℕ} (maxInstructions + 2) 0))
