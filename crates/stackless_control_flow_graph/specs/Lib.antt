@@ -14,3 +14,4 @@ pub mod RowLaws
 pub mod CallLaws
 pub mod Sorting
 pub mod SortLaws
+pub mod SlotLaws
