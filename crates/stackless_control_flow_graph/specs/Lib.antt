@@ -15,3 +15,4 @@ pub mod CallLaws
 pub mod Sorting
 pub mod SortLaws
 pub mod SlotLaws
+pub mod LeadLaws
