@@ -4,6 +4,7 @@
 pub mod plain;
 pub mod random;
 pub mod sheet;
+pub mod text;
 
 use std::fmt;
 

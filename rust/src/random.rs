@@ -59,7 +59,8 @@ pub fn sheet(rng: &mut Rng, shape: Shape) -> Sheet {
             Some(l) => Instruction { one: l, ..Instruction::new(LABEL) },
             None => instruction(rng, locals, &numbers, flags, k == n - 1),
         };
-        r.attr = rng.below(if rng.chance(30) { 65_536 } else { 50 }) as u16;
+        let attrs = if rng.chance(30) { 65_536 } else { 50 };
+        r.attr = rng.below(attrs) as u16;
         code.push(r);
     }
     let users = rng.below(locals + 1);
@@ -90,8 +91,9 @@ fn instruction(rng: &mut Rng, locals: usize, labels: &[u16], flags: bool, last: 
             }
             CALL => {
                 r.sub = if last || rng.chance(12) { 18 } else { rng.below(55) as u8 };
-                r.dsts = list(rng, locals, 0, if rng.chance(3) { 8 } else { 2 });
-                r.srcs = list(rng, locals, 0, if rng.chance(3) { 8 } else { 2 });
+                let most = if rng.chance(3) { 8 } else { 2 };
+                r.dsts = list(rng, locals, 0, most);
+                r.srcs = list(rng, locals, 0, most);
                 r.payload = rng.next() as u32;
                 if flags && !last && locals > 0 && !labels.is_empty() && rng.chance(3) {
                     r.one = label(rng);
@@ -140,8 +142,11 @@ pub fn shape(rng: &mut Rng) -> Shape {
     Shape { n, locals, labels: rng.below(1 + n / 2), flags: rng.chance(2) }
 }
 
-/// One or two changes of a sheet's bytes; mostly sealed again, so that later checks are met.
+/// One or two changes of a sheet's bytes, or of its code; mostly sealed again, so that later checks are met.
 pub fn damage(rng: &mut Rng, s: &[u8]) -> Vec<u8> {
+    if rng.chance(3) {
+        return damaged_code(rng, s);
+    }
     let mut t = s.to_vec();
     for _ in 0..1 + rng.below(2) {
         let at = match rng.below(4) {
@@ -176,4 +181,24 @@ pub fn damage(rng: &mut Rng, s: &[u8]) -> Vec<u8> {
         }
     }
     t
+}
+
+/// A label that moves onto another's number or away, a local at the count, or another last instruction.
+fn damaged_code(rng: &mut Rng, s: &[u8]) -> Vec<u8> {
+    let mut sheet = Sheet::of_bytes(s);
+    let n = sheet.code.len();
+    for _ in 0..1 + rng.below(2) {
+        let (k, from) = (rng.below(n), rng.below(n));
+        match rng.below(4) {
+            0 => sheet.code[k] = sheet.code[from].clone(),
+            1 => sheet.code[n - 1] = sheet.code[from].clone(),
+            2 if sheet.code[k].one > 0 => sheet.code[k].one ^= 1,
+            _ => {
+                if let Some(x) = sheet.code[k].srcs.first_mut() {
+                    *x = sheet.locals as u8;
+                }
+            }
+        }
+    }
+    sheet.bytes()
 }

@@ -76,3 +76,14 @@ first-is (suc n) k i ok l h before bad =
     (λ s. ap (λ (b : Bool). elim b as (λ _. Option ℕ) [ true ↦ firstBad n (suc k) ok | false ↦ some k ]) (ap ok s ∙ bad) ∙ ap {B = Option ℕ} some s)
     (λ g. ap (λ (b : Bool). elim b as (λ _. Option ℕ) [ true ↦ firstBad n (suc k) ok | false ↦ some k ]) (before k (omega arith) (omega arith))
     ∙ first-is n (suc k) i ok (omega arith) (omega arith) (λ j a b. before j (omega arith) b) bad)
+
+-- what it finds is one of the places that it looks at
+pub bad-lt : (n k : ℕ) (ok : ℕ → Bool) (p : ℕ) → firstBad n k ok ≡ some p → p < k + n
+unfolding firstBad
+bad-lt zero k ok p e = absurd (let z : _≡_ {A = ℕ} 0 1 = cc in omega arith)
+bad-lt (suc n) k ok p e =
+    by-test (λ b. _≡_ {A = Option ℕ} (elim b [ true ↦ firstBad n (suc k) ok | false ↦ some k ]) (some p) → p < k + suc n) (ok k)
+    (λ t f. omega (arith, bad-lt n (suc k) ok p f)) (λ t f. let s : k ≡ p = some-one f in omega arith) e
+  where
+    some-one : {x y : ℕ} → _≡_ {A = Option ℕ} (some x) (some y) → x ≡ y
+    some-one q = cc

@@ -32,8 +32,14 @@ pub record Given : Type 0 where
 abbrev pub tripleAt : List ℕ → ℕ → Triple
 tripleAt xs i = record { parent = getD xs (3 * i) 0; child = getD xs (3 * i + 1) 0; edge = getD xs (3 * i + 2) 0 }
 
+abbrev pub given : ℕ → ℕ → List ℕ → Given
+given count live numbers = record { count = count; live = live; numbers = numbers }
+
+abbrev pub triplesOf : List ℕ → List Triple
+triplesOf xs = tab (length xs / 3) 0 (tripleAt xs)
+
 unfoldable pub graphOf : Given → Graph
-graphOf g = record { count = g .count; live = g .live; triples = tab (length (g .numbers) / 3) 0 (tripleAt (g .numbers)) }
+graphOf g = record { count = g .count; live = g .live; triples = triplesOf (g .numbers) }
 
 -- ---- 12: nodes
 

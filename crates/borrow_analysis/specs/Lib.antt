@@ -1,3 +1,13 @@
 pub mod Graph
 pub mod Borrows
+pub mod Meaning
 pub mod BorrowLaws
+pub mod Answers
+pub mod GraphLaws
+pub mod Parts
+pub mod UpwardLaws
+pub mod AcceptedLaws
+pub mod AncestorLaws
+pub mod VisitLaws
+pub mod WalkLaws
+pub mod MeaningLaws

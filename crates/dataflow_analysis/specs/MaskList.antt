@@ -124,7 +124,8 @@ module _ (leads : ℕ → List ℕ) (out : ℕ → ℕ → ℕ) where
       go (yes a) (no g) c = no (λ z. g (z .to))
       go (no g) b c = no (λ z. g (z .met))
 
-  met-inside : (n : ℕ) (st : State masks) → general.Ok mask-laws n st → (k : ℕ) → Met st k → k < n
+  -- only nodes are met
+  pub met-inside : (n : ℕ) (st : State masks) → general.Ok mask-laws n st → (k : ℕ) → Met st k → k < n
   met-inside n st ok k h =
       by-lt k n (λ q. q) (λ q. absurd (omega (arith, h, List·getD-eq-default (st .met) 0 {n = k} (omega (arith, ok .met-length)))))
 

@@ -559,6 +559,48 @@ module _ {L : Lattice} (W : Laws L) where
       pub inv-few : (st : State L) → Inv S n start st → st .taken + length (st .list) + S .size top ≤ n + n * S .size top
       inv-few st v = omega (arith, v .counted .fits, room-le S n start st (v .ok) inside (v .under))
 
+      -- within the largest values, and counted
+      record Handing (s : State L) : Type 0 where
+        within : Under (full start top) s
+        counted : Counted S s
+
+      -- while k hands on, and the nodes of ps have received, a node with news finds a place in a queue of the bound's length
+      pub hand-fits : (st : State L) (k : ℕ) (ks : List ℕ) → st .list ≡ k ∷ ks → Inv S n start st → (ps : List ℕ) → ((p : ℕ) → List·Memᴰ p ps → List·Memᴰ p (leads k))
+          → (p : ℕ) → List·Memᴰ p (leads k) → news (out k (setAt st k)) (over (receive (out k (setAt st k))) (popped st ks) ps) p ≡ true
+          → over (receive (out k (setAt st k))) (popped st ks) ps .taken + length (over (receive (out k (setAt st k))) (popped st ks) ps .list) + S .size top < n + n * S .size top
+      hand-fits st k ks first v ps part p to e =
+          put-fits S n start (out k (setAt st k)) now p graph (over-ok n (out k (setAt st k)) ps inside-ps (popped st ks) ok) (graph .inside k .each p to) inside (held .within) (fits p to) (held .counted) e
+        where
+          now : State L
+          now = over (receive (out k (setAt st k))) (popped st ks) ps
+
+          inside-ps : Inside n ps
+          inside-ps = record { each = λ q i. graph .inside k .each q (part q i) }
+
+          ok : Ok n (popped st ks)
+          ok = popped-ok n graph st k ks first (v .ok)
+
+          own : W .Le (setAt st k) top
+          own = W .le-trans (v .under .each k) (full-le start top k)
+
+          small : W .Le (out k (setAt st k)) top
+          small = narrow .small k (setAt st k) own
+
+          fits : (q : ℕ) → List·Memᴰ q (leads k) → W .Le (out k (setAt st k)) (full start top q)
+          fits q i = full-within start top narrow k q i (setAt st k) own
+
+          begun : Under (full start top) (popped st ks)
+          begun = record { each = λ j. subst (λ (x : A). W .Le x (full start top j)) (sym (popped-sets n graph st k ks first (v .ok) j)) (v .under .each j) }
+
+          held : Handing (over (receive (out k (setAt st k))) (popped st ks) ps)
+          held =
+              over-keeps Handing n (out k (setAt st k)) ps inside-ps
+              (λ s q i h o g. record {
+                within = receive-under n graph (out k (setAt st k)) s q o h (full start top) (fits q (part q i)) (g .within);
+                counted = receive-counted S n (out k (setAt st k)) s q o h (W .le-trans (g .within .each q) (full-le start top q)) small (g .counted);
+              })
+              (popped st ks) ok (record { within = begun; counted = popped-counted n graph st k ks first (v .ok) S small (v .counted) })
+
       pub ends : (fuel : ℕ) → n + n * S .size top ≤ fuel + S .size top → Ended S n start (run leads out fuel (begin n start))
       ends fuel enough = record {
         ok = last .ok;

@@ -9,4 +9,5 @@ pub mod SliceLaws
 pub mod MemberLaws
 pub mod WalkLaws
 pub mod ByteLaws
+pub mod ByteWords
 pub mod SetLaws

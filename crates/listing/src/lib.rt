@@ -1,1 +1,3 @@
-// The text of livelist, as bytes. Assumes nothing.
+// The text of livelist, as bytes in a lent slice. Assumes nothing.
+pub mod numbers;
+pub mod text;

@@ -11,7 +11,7 @@ use lib.Dec.{eqb}
 use lib.ListN.{getD, length, take, drop, length-map}
 use lib.Seq.{drop-cons}
 use Rattle.dataflow_domains.specs.Mask.{bit, unions, Sub}
-use Rattle.dataflow_domains.specs.MaskLaws.{sub-refl, sub-trans, sub-antisymm, sub-empty, bit-empty, unions-in, unions-least, unions-one, sub-by, sub-at}
+use Rattle.dataflow_domains.specs.MaskLaws.{sub-eq, sub-trans, sub-antisymm, sub-empty, bit-empty, unions-in, unions-least, unions-one, sub-by, sub-at}
 use Rattle.dataflow_analysis.specs.Worklist.{State, setAt, Met, run}
 use Rattle.dataflow_analysis.specs.MaskList.{masks, Graph, Narrow, Source, Best, best}
 use Rattle.livevar_analysis.specs.Live.{Obeys, Post, execute}
@@ -29,9 +29,6 @@ use Rattle.stackless_bytecode.specs.SuccessorLaws.{Sound}
 use Rattle.stackless_control_flow_graph.specs.BlockLaws.{Last, Start, succs-mid, succs-start, upper-le, upper-lt, upper-last, upper-next, upper-stop, lower-start, lower-next, lower-starts, lower-le, upper-lower, keyed-in, in-keyed, keyed-distinct}
 
 -- ---- sets that obey have at least what the rules give
-
-pub sub-eq : {x y : ℕ} → x ≡ y → Sub x y
-sub-eq {x} e = subst (λ (z : ℕ). Sub x z) e (sub-refl x)
 
 pub obeys-post : (code : List Bytecode) (b a : ℕ → ℕ) → Obeys code b a → Post code b a
 obeys-post code b a ob = record {
@@ -100,36 +97,36 @@ before-lt l (r ∷ rs) h m b = h r (executeAll rs m) (List·Memᴰ·head refl) (
 
 module _ (code : List Bytecode) where
   -- the instructions behind k, to the end of its block
-  behind : ℕ → List Bytecode
+  pub behind : ℕ → List Bytecode
   behind k = take (upperOf code k - k) (drop (suc k) code)
 
-  rest-is : (k : ℕ) → k < length code → restOf code k ≡ at code k ∷ behind k
+  pub rest-is : (k : ℕ) → k < length code → restOf code k ≡ at code k ∷ behind k
   unfolding restOf behind
   rest-is k h =
       let size : suc (upperOf code k) - k ≡ suc (upperOf code k - k) = omega (arith, upper-le code k) in
       ap₂ (λ (x : ℕ) (l : List Bytecode). take x l) size (drop-cons code k nop h)
 
-  behind-last : (k : ℕ) → k < length code → Last code k → behind k ≡ []
+  pub behind-last : (k : ℕ) → k < length code → Last code k → behind k ≡ []
   unfolding behind
   behind-last k h last =
       let size : upperOf code k - k ≡ 0 = omega (arith, upper-stop code k h last) in
       ap (λ (x : ℕ). take x (drop (suc k) code)) size
 
-  behind-mid : (k : ℕ) → suc k < length code → starts code (suc k) ≡ false → behind k ≡ restOf code (suc k)
+  pub behind-mid : (k : ℕ) → suc k < length code → starts code (suc k) ≡ false → behind k ≡ restOf code (suc k)
   unfolding behind restOf
   behind-mid k h e =
       let size : upperOf code k - k ≡ suc (upperOf code (suc k)) - suc k = omega (arith, upper-next code k h e, upper-le code (suc k)) in
       ap (λ (x : ℕ). take x (drop (suc k) code)) size
 
   -- a block ends at k, or goes on
-  by-last : {P : Type 0} (k : ℕ) → k < length code → (Last code k → P) → (suc k < length code → starts code (suc k) ≡ false → P) → P
+  pub by-last : {P : Type 0} (k : ℕ) → k < length code → (Last code k → P) → (suc k < length code → starts code (suc k) ≡ false → P) → P
   unfolding Last
   by-last {P} k h stop on =
       by-eq (suc k) (length code) (λ e. stop (inl e))
       (λ g. by-test (λ b. starts code (suc k) ≡ b → P) (starts code (suc k)) (λ e q. stop (inr e)) (λ e q. on (omega arith) e) refl)
 
 -- an instruction's sides from its set after
-abbrev sidesBy : Bytecode → ℕ → LiveVarInfo
+abbrev pub sidesBy : Bytecode → ℕ → LiveVarInfo
 sidesBy r m = record { before = execute r m; after = m }
 
 -- ---- the graph of a sheet
@@ -227,10 +224,10 @@ module _ (code : List Bytecode) (sound : Sound code) (l : ℕ) (small : (r : Byt
   out-mono (suc zero) a b p = p
   out-mono (suc (suc k)) a b p = before-mono (restOf code (getD (keyed code) k 0)) a b p
 
-  graph : Graph (leadsTo (nextsOf code (keyed code))) (outOf code (keyed code)) (2 + length (keyed code))
+  pub graph : Graph (leadsTo (nextsOf code (keyed code))) (outOf code (keyed code)) (2 + length (keyed code))
   graph = record { inside = λ k. record { each = λ p m. leads-lt k p (leads-is k p m) }; mono = out-mono }
 
-  narrow : Narrow (leadsTo (nextsOf code (keyed code))) (outOf code (keyed code)) 1 l
+  pub narrow : Narrow (leadsTo (nextsOf code (keyed code))) (outOf code (keyed code)) 1 l
   unfolding outOf restOf
   narrow = record { apart = λ k m. apart k (leads-is k 1 m); small = out-lt }
     where
@@ -251,7 +248,7 @@ module _ (code : List Bytecode) (sound : Sound code) (l : ℕ) (small : (r : Byt
   st : State masks
   st = analyzeFunction code (keyed code) l
 
-  bound-fits : (2 + length (keyed code)) + (2 + length (keyed code)) * l ≡ takenBound (length (keyed code)) l + l
+  pub bound-fits : (2 + length (keyed code)) + (2 + length (keyed code)) * l ≡ takenBound (length (keyed code)) l + l
   bound-fits =
       let b = length (keyed code) in
       omega (arith, add-mul 2 b l, add-mul b 1 (l + 1), mul-add b l 1, mul-one b, one-mul (l + 1))

@@ -8,3 +8,15 @@ pub mod Term3
 pub mod RewriteLaws
 pub mod RewriteAccepted
 pub mod Walk
+pub mod Rules
+pub mod Engine
+pub mod DecodeLaws
+pub mod InputLaws
+pub mod EngineLaws
+pub mod RunLaws
+pub mod Output
+pub mod OutputLaws
+pub mod LiveCall
+pub mod LiveCallLaws
+pub mod Prepared
+pub mod PreparedLaws

@@ -4,12 +4,11 @@ use mathlib.Core.Bool.{Bool, true, false, cond, _||_}
 use Prim.Native.Nat.{ℕ, _^_, _≤_, _<_}
 use native.Mathlib.Decide.{ℕ-discrete}
 use native.Mathlib.Omega.{arith}
-use mathlib.Core.List.{List, [], _∷_, List·Memᴰ, List·Memᴰ·head, List·Memᴰ·tail}
-use lib.Pow.{pow-pos, pow-lt}
+use mathlib.Core.List.{List·Memᴰ}
 use lib.Dec.{eqb}
 use lib.ListN.{getD}
 use Rattle.dataflow_domains.specs.Mask.{bit, holds, union, minus, setOf, Sub}
-use Rattle.dataflow_domains.specs.MaskLaws.{bit-union, bit-minus, bit-other, sub-refl, sub-lt, minus-sub, union-lt, union-mono, minus-mono, holds-true, holds-false}
+use Rattle.dataflow_domains.specs.MaskLaws.{bit-union, bit-minus, bit-other, sub-refl, union-lt, minus-lt, setOf-lt, union-mono, minus-mono, holds-true, holds-false}
 use Rattle.stackless_bytecode.specs.declared.Bytecode.{Bytecode}
 use Rattle.stackless_bytecode.specs.Kinds.{dstsOf, srcsOf}
 use Rattle.livevar_analysis.specs.Live.{assigned, called, execute}
@@ -56,18 +55,9 @@ transfer-mono r m n p =
 
 -- ---- every rule keeps to the locals
 
-minus-lt : (l m c : ℕ) → m < 2 ^ l → minus m c < 2 ^ l
-minus-lt l m c h = sub-lt l (minus-sub m c) h
-
 cond-lt : (l : ℕ) (b : Bool) {x y : ℕ} → x < 2 ^ l → y < 2 ^ l → cond b x y < 2 ^ l
 cond-lt l true p q = p
 cond-lt l false p q = q
-
-pub setOf-lt : (l : ℕ) (xs : List ℕ) → ((x : ℕ) → List·Memᴰ x xs → x < l) → setOf xs < 2 ^ l
-unfolding setOf
-setOf-lt l [] h = pow-pos l
-setOf-lt l (x ∷ xs) h =
-    union-lt l (2 ^ x) (setOf xs) (pow-lt (h x (List·Memᴰ·head refl))) (setOf-lt l xs (λ y i. h y (List·Memᴰ·tail i)))
 
 pub transfer-lt : (l : ℕ) (r : Bytecode) (m : ℕ) → ((x : ℕ) → List·Memᴰ x (srcsOf r) → x < l) → m < 2 ^ l → execute r m < 2 ^ l
 unfolding execute assigned called

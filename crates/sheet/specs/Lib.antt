@@ -12,3 +12,5 @@ pub mod LocalLaws
 pub mod Labelled
 pub mod LabelLaws
 pub mod NameLaws
+pub mod FormLaws
+pub mod WriterLaws

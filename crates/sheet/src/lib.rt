@@ -6,6 +6,8 @@ pub mod blocks; // blocks.rt: checks 1 to 3
 pub mod records; // records.rt: check 4
 pub mod locals; // locals.rt: check 5
 pub mod labels; // labels.rt: checks 6 to 8
+pub mod check; // check.rt: all checks, one after the other
+pub mod writer; // writer.rt: numbers, lists and records into bytes
 
 // What the checks say of a sheet.
 pub enum Checked {

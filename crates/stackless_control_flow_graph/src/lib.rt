@@ -75,7 +75,15 @@ pub fn table_of(sheet: &[u8], n: usize, targets: &[u16], table: &mut [u16]) -> F
     let mut marks = [0u8; MAX_INSTRUCTIONS + 1];
     let mut lowers = [0u16; MAX_INSTRUCTIONS];
     let mut uppers = [0u16; MAX_INSTRUCTIONS];
-    let m = blocks::cut(sheet, n, targets, &mut goes, &mut marks, &mut lowers, &mut uppers);
+    let m = blocks::cut(
+        sheet,
+        n,
+        targets,
+        &mut goes,
+        &mut marks,
+        &mut lowers,
+        &mut uppers,
+    );
     if lacks(table.len(), rows::ROW * m) {
         return Flow::Refused(Refusal::OutputShort);
     }

@@ -27,7 +27,7 @@ slice-aggregate-write-rows : tie.Need-slice-aggregate-write-rows
 slice-aggregate-write-rows c = search needs
 
 write-rows-requires : tie.Need-write-rows-requires
-write-rows-requires c κs = 
+write-rows-requires c κs =
     let k = c .before .before .before .before .give-all .kept .1 .1 .1 .1 .0 in
     (fill-ready _ (c .before .before .before .before .before .before .before .before .before .before .before .before .pre .0) _ _ _ _ (c .before .before .before .before .before .before .before .before .before .before .before .before .pre .1) _ k, fill-has _ (c .before .before .before .before .before .before .before .before .before .before .before .before .pre .0) _ _ _ _ (c .before .before .before .before .before .before .before .before .before .before .before .before .pre .1), omega (arith, k), search needs)
 
@@ -35,7 +35,7 @@ same-length : tie.Need-same-length
 same-length c = search needs
 
 returns : tie.Need-returns
-returns c = 
+returns c =
     let a = c .before .before .before .before .before .before .before .before .before .before .before .before .before .before .before .args in
     c .before .before .write-rows .ensures ∙ ap (λ (l : List ℕ). l ++ drop (6 * a .m) (a .table .now)) (fill-table _ (c .before .before .before .before .before .before .before .before .before .before .before .before .before .before .before .pre .0) _ _ _ _ (c .before .before .before .before .before .before .before .before .before .before .before .before .before .before .before .pre .1) _ _ _ _ _ (c .before .before .before .before .before .before .before .give-all .kept .1 .1 .1 .1 .0) (c .before .before .before .before .before .before .before .give-all .ensures))
 

@@ -32,7 +32,7 @@ slice-aggregate-cut-4 : tie.Need-slice-aggregate-cut-4
 slice-aggregate-cut-4 c = search needs
 
 cut-requires : tie.Need-cut-requires
-cut-requires c κs = 
+cut-requires c κs =
     let few = given-shaped (c .before .before .before .before .before .before .before .pre) .few in
     (c .before .before .before .before .before .before .before .pre, omega (arith, few), omega (arith, few), λ j. copies-at 1025 j 0, few, few)
 
@@ -49,7 +49,7 @@ lacks-requires : tie.Need-lacks-requires
 lacks-requires c κs = search needs
 
 returns : tie.Need-returns
-returns c = 
+returns c =
     let s = c .before .before .before .before .before .before .before .before .before .before .before .before .before .before .args .sheet .now in
     let e = flow-short s (length (c .before .before .before .before .before .before .before .before .before .before .before .before .before .before .args .table .now)) (6 * c .before .before .before .before .before .before .cut .result) (c .before .before .before .before .before .before .before .before .before .before .before .before .before .before .pre .accepted) (ap (λ (x : ℕ). 6 * x) (c .before .before .before .before .before .before .cut .ensures .0 .count)) (sym (c .before .lacks .ensures) ∙ c .if1 .taken) in
     (short-result _ e, short-left _ _ e)
@@ -73,7 +73,7 @@ same-length : tie.Need-same-length
 same-length c = search needs
 
 returns-2 : tie.Need-returns-2
-returns-2 c = 
+returns-2 c =
     let s = c .before .before .before .before .before .before .before .before .before .before .before .before .before .before .before .before .before .before .before .before .before .before .args .sheet .now in
     let m = c .before .before .before .before .before .before .before .before .before .before .before .before .before .before .cut .ensures .0 .count in
     let e = flow-done s (length (c .before .before .before .before .before .before .before .before .before .before .before .before .before .before .before .before .before .before .before .before .before .before .args .table .now)) (6 * c .before .before .before .before .before .before .before .before .before .before .before .before .before .before .cut .result) (c .before .before .before .before .before .before .before .before .before .before .before .before .before .before .before .before .before .before .before .before .before .before .pre .accepted) (ap (λ (x : ℕ). 6 * x) m) (sym (c .before .before .before .before .before .before .before .before .before .lacks .ensures) ∙ c .before .before .before .before .before .before .before .before .if1 .left) in

@@ -50,7 +50,7 @@ give-requires-2 : tie.Need-give-requires-2
 give-requires-2 c κs = (c .before .before .before .before .before .before .before .before .before .before .before .pre .0, near-first _ _ _ _ _ _ (c .before .before .before .before .before .before .before .before .before .before .before .pre .1) (c .before .before .before .before .before .before .wide .ensures) (c .before .before .before .before .wide2 .ensures) (c .before .before .before .if1 .left), c .before .before .before .before .before .before .before .before .before .before .before .pre .3, c .before .before .before .before .before .before .before .before .before .before .before .pre .4)
 
 give-requires-3 : tie.Need-give-requires-3
-give-requires-3 c κs = 
+give-requires-3 c κs =
     let k = c .before .before .before .before .before .before .give2 .kept .1 .1 .0 in
     let b = c .before .before .before .before .before .before .give2 .kept .1 .1 .1 .0 in
     (c .before .before .before .before .before .before .give2 .ensures .keys, omega (arith, k, c .before .before .before .before .before .before .before .before .before .before .before .before .before .before .before .before .before .before .pre .1 .self), omega (arith, k, b), omega (arith, k))
@@ -68,13 +68,13 @@ give-requires-4 : tie.Need-give-requires-4
 give-requires-4 c κs = (c .before .before .before .before .before .before .before .before .before .before .before .pre .0, near-first _ _ _ _ _ _ (c .before .before .before .before .before .before .before .before .before .before .before .pre .1) (c .before .before .before .before .before .before .wide .ensures) (c .before .before .before .before .wide2 .ensures) (c .before .before .before .if1 .left), c .before .before .before .before .before .before .before .before .before .before .before .pre .3, c .before .before .before .before .before .before .before .before .before .before .before .pre .4)
 
 give-requires-5 : tie.Need-give-requires-5
-give-requires-5 c κs = 
+give-requires-5 c κs =
     let k = c .before .before .before .before .before .before .give4 .kept .1 .1 .0 in
     let b = c .before .before .before .before .before .before .give4 .kept .1 .1 .1 .0 in
     (c .before .before .before .before .before .before .give4 .ensures .keys, omega (arith, k, near-second _ _ _ _ _ _ (c .before .before .before .before .before .before .before .before .before .before .before .before .before .before .before .before .before .before .pre .1) (c .before .before .before .before .before .before .before .before .before .before .before .before .before .wide .ensures) (c .before .before .before .before .before .before .before .before .before .before .before .wide2 .ensures) (c .before .before .before .before .before .before .before .before .before .before .if1 .left) (c .before .before .before .before .before .before .before .before .before .if2 .left)), omega (arith, k, b), omega (arith, k))
 
 give-requires-6 : tie.Need-give-requires-6
-give-requires-6 c κs = 
+give-requires-6 c κs =
     let k = c .before .before .before .before .before .before .give5 .kept .1 .1 .0 ∙ c .before .before .before .before .before .before .before .before .before .before .before .before .before .give4 .kept .1 .1 .0 in
     let b = c .before .before .before .before .before .before .give5 .kept .1 .1 .1 .0 ∙ c .before .before .before .before .before .before .before .before .before .before .before .before .before .give4 .kept .1 .1 .1 .0 in
     (c .before .before .before .before .before .before .give5 .ensures .keys, omega (arith, k, c .before .before .before .before .before .before .before .before .before .before .before .before .before .before .before .before .before .before .before .before .before .before .before .before .before .pre .1 .self), omega (arith, k, b), omega (arith, k))

@@ -73,7 +73,7 @@ same-length : tie.Need-same-length
 same-length c = simp length-set
 
 returns : tie.Need-returns
-returns c = 
+returns c =
     let a = c .before .before .before .before .before .before .before .before .before .before .before .before .args in
     row-put (a .out .now) (a .sheet .now) (a .goes .now) (a .key .now) (a .l) (a .u) (c .before .before .narrow .result) (c .before .narrow2 .result) (c .before .before .before .succ-keys .result) (c .before .before .before .before .is-exit .result) (c .before .before .before .before .before .before .before .instruction-at .result) (c .before .before .before .before .before .before .before .before .before .before .before .before .pre .4) (c .before .before .narrow .ensures) (c .before .narrow2 .ensures) (c .before .before .before .succ-keys .ensures) (c .before .before .before .before .is-exit .ensures) (c .before .before .before .before .before .before .before .instruction-at .ensures)
 

@@ -77,15 +77,17 @@ part-write-row-end : tie.Need-part-write-row-end Inv-loop μ-loop
 part-write-row-end c = omega (arith, kept (c .before .before .before .before .before))
 
 write-row-requires : tie.Need-write-row-requires Inv-loop μ-loop
-write-row-requires c κs = 
+write-row-requires c κs =
     let a = c .before .before .before .before .before .before .before .before .before .before .before .before .before .args in
     let b = c .before .before .before .before .before .before .loop .b in
     let r = c .before .before .before .before .before .before .before .before .before .before .before .before .before .pre .0 in
-    let six : 6 * b + 6 - 6 * b ≡ 6 = omega arith in
-    (rw (upper-is (c .before)) (c .before .before .before .before .before .before .before .before .before .before .before .before .before .pre .1 b (search needs)),
-    near (length (a .key .now)) (a .goes .now) (c .before .before .before .wide .result) (c .before .wide2 .result) (omega (arith, lower-is (c .before .before .before), r .lower b (search needs))) (rw (upper-is (c .before)) (r .next b (search needs))),
-    omega (arith, upper-is (c .before), r .places b (search needs)), c .before .before .before .before .before .before .before .before .before .before .before .before .before .pre .2,
-    rw six (length-take-le 6 (drop (6 * b) (c .before .before .before .before .before .before .loop .table)) (omega (arith, kept (c .before .before .before .before .before .before), length-drop (6 * b) (c .before .before .before .before .before .before .loop .table)))))
+    let six : 6 * b + 6 - 6 * b ≡ 6 = omega arith in (
+      rw (upper-is (c .before)) (c .before .before .before .before .before .before .before .before .before .before .before .before .before .pre .1 b (search needs)),
+      near (length (a .key .now)) (a .goes .now) (c .before .before .before .wide .result) (c .before .wide2 .result) (omega (arith, lower-is (c .before .before .before), r .lower b (search needs))) (rw (upper-is (c .before)) (r .next b (search needs))),
+      omega (arith, upper-is (c .before), r .places b (search needs)),
+      c .before .before .before .before .before .before .before .before .before .before .before .before .before .pre .2,
+      rw six (length-take-le 6 (drop (6 * b) (c .before .before .before .before .before .before .loop .table)) (omega (arith, kept (c .before .before .before .before .before .before), length-drop (6 * b) (c .before .before .before .before .before .before .loop .table)))),
+    )
 
 add-b : tie.Need-add-b Inv-loop μ-loop
 add-b c = search needs
@@ -94,7 +96,7 @@ loop-less : tie.Need-loop-less Inv-loop μ-loop
 loop-less c = search needs
 
 loop-again : tie.Need-loop-again Inv-loop μ-loop
-loop-again c = 
+loop-again c =
     let a = c .before .before .before .before .before .before .before .before .before .before .before .before .before .before .before .before .args in
     let b = c .before .before .before .before .before .before .before .before .before .loop .b in
     let six : 6 * b + 6 - 6 * b ≡ 6 = omega arith in
@@ -104,7 +106,7 @@ same-length : tie.Need-same-length Inv-loop μ-loop
 same-length c = kept (c .before)
 
 returns : tie.Need-returns Inv-loop μ-loop
-returns c = 
+returns c =
     let e : c .before .loop .b ≡ c .before .before .before .before .before .before .before .before .args .m = omega arith in
     rw (← e) (c .before .loop .inv .1)
 

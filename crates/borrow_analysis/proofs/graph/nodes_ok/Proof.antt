@@ -1,0 +1,28 @@
+-- `borrow_analysis::graph::nodes_ok` meets its contract. Assumes nothing.
+use native.Mathlib.Omega.{arith}
+use mathlib.Core.Path.{ap, _∙_}
+use Prim.Native.Nat.{ℕ, _^_}
+use lib.Dec.{ltb}
+use Rattle.borrow_analysis.specs.GraphLaws.{nodes-many, nodes-few}
+use borrow.Author.Needs.{needs}
+use Rattle.borrow_analysis.proofs.graph.nodes_ok.Statement.{statement}
+use Rattle.borrow_analysis.proofs.graph.nodes_ok.Tie as tie
+use Rattle.borrow_analysis.proofs.graph.nodes_ok.Reads as reads
+use Rattle.borrow_analysis.proofs.graph.nodes_ok.Lts as lts
+use Rattle.borrow_analysis.proofs.graph.live_set.Reads as live-set-reads
+use Rattle.borrow_analysis.proofs.graph.none_from.Reads as none-from-reads
+
+returns : tie.Need-returns
+returns c = nodes-many _ _ (c .if1 .taken)
+
+live-set-requires : tie.Need-live-set-requires
+live-set-requires c κs = search needs
+
+none-from-requires : tie.Need-none-from-requires
+none-from-requires c κs = search needs
+
+returns-2 : tie.Need-returns-2
+returns-2 c = c .none-from .ensures ∙ ap (λ (m : ℕ). ltb m (2 ^ (c .before .before .before .args .nodes))) (c .before .live-set .ensures) ∙ nodes-few _ _ (c .before .before .if1 .left)
+
+pub nodes-ok-spec : {M : Type 1} → statement M
+nodes-ok-spec = tie.close (tie.spec returns live-set-requires none-from-requires returns-2)

@@ -1,0 +1,65 @@
+-- `borrow_analysis::upward::above` meets its contract. Assumes nothing.
+use mathlib.Core.Path.{_≡_, sym, ap, _∙_}
+use Prim.Native.Nat.{ℕ, _+_, _-_, _≤_}
+use native.Mathlib.Nat.{sub-zero}
+use borrow.Author.Tests.{eqb-true}
+use Rattle.dataflow_domains.specs.Sets.{mask}
+use Rattle.borrow_analysis.specs.Graph.{triplesOf}
+use Rattle.borrow_analysis.specs.Borrows.{upward}
+use Rattle.borrow_analysis.specs.UpwardLaws.{upward-fixed, upward-more, upward-end}
+use borrow.Author.Needs.{needs}
+use native.Mathlib.Omega.{arith}
+use Rattle.borrow_analysis.proofs.upward.above.Statement.{statement}
+use Rattle.borrow_analysis.proofs.upward.above.Tie as tie
+use Rattle.borrow_analysis.proofs.upward.above.Reads as reads
+use Rattle.borrow_analysis.proofs.upward.above.Lts as lts
+use Rattle.borrow_analysis.proofs.upward.parents_in.Reads as parents-in-reads
+use Rattle.dataflow_domains.proofs.LiveVarState.same.Reads as same-reads
+
+abbrev Inv-loop : tie.InvT-loop
+Inv-loop triples times reached₀ k₀ reached k = (k ≤ times) × (upward times (triplesOf triples) (mask reached₀) ≡ upward (times - k) (triplesOf triples) (mask reached))
+
+abbrev μ-loop : tie.MeasureT-loop
+μ-loop triples times reached₀ k₀ reached k = times - k
+
+loop-holds : tie.Need-loop-holds Inv-loop μ-loop
+loop-holds c = (search needs, ap (λ (j : ℕ). upward j (triplesOf (c .before .args .triples .now)) (mask (c .before .args .set))) (sym (sub-zero (c .before .args .times))))
+
+parents-in-requires : tie.Need-parents-in-requires Inv-loop μ-loop
+parents-in-requires c κs = search needs
+
+same-requires : tie.Need-same-requires Inv-loop μ-loop
+same-requires c κs = search needs
+
+returns : tie.Need-returns Inv-loop μ-loop
+returns c = sym (c .before .before .before .before .loop .inv .1 ∙ upward-fixed _ _ _ (sym (c .before .before .parents-in .ensures) ∙ eqb-true _ _ (sym (c .before .same .ensures) ∙ c .if1 .taken)))
+
+add-k : tie.Need-add-k Inv-loop μ-loop
+add-k c = search needs
+
+loop-less : tie.Need-loop-less Inv-loop μ-loop
+loop-less c = search needs
+
+loop-again : tie.Need-loop-again Inv-loop μ-loop
+loop-again c = (
+  omega arith,
+  c .before .before .before .before .loop .inv .1 ∙ upward-more _ _ _ _ (c .before .before .before .loop-test .taken) ∙ ap (upward (c .before .before .before .before .before .before .args .times - (c .before .before .before .before .loop .k + 1)) (triplesOf (c .before .before .before .before .before .before .args .triples .now))) (sym (c .before .before .parents-in .ensures)),
+)
+
+returns-2 : tie.Need-returns-2 Inv-loop μ-loop
+returns-2 c = sym (c .before .loop .inv .1 ∙ upward-end _ _ _ _ (c .loop-test .left))
+
+pub above-spec : {M : Type 1} → statement M
+above-spec =
+    tie.close
+    (tie.spec
+    Inv-loop
+    μ-loop
+    loop-holds
+    parents-in-requires
+    same-requires
+    returns
+    add-k
+    loop-less
+    loop-again
+    returns-2)

@@ -1,0 +1,154 @@
+-- The visits of the definition: how they go on, and that what is seen grows, each node once. Assumes nothing.
+use mathlib.Core.Path.{_≡_, refl, sym, ap, ap₂, _∙_, subst}
+use mathlib.Core.Logic.{_⊎_, inl, inr, ⊎-elim}
+use mathlib.Core.Bool.{Bool, true, false, cond, _||_}
+use mathlib.Core.List.{List, [], _∷_, _++_, List·Memᴰ, List·Memᴰ·head, List·Memᴰ·tail, List·Memᴰ·not-nil, List·Memᴰ·cases-cons}
+use Prim.Native.Nat.{ℕ, zero, suc, _+_, _-_, _*_, _/_, _%_, _^_, _≤_, _<_, max}
+use native.Mathlib.Nat.{pow-suc}
+use native.Mathlib.Omega.{arith}
+use borrow.Author.Tests.{eq-eqb, ne-eqb, eqb-true}
+use lib.Count.{ones, ones-step}
+use lib.Dec.{eqb}
+use lib.ListN.{length, length-append}
+use lib.Pow.{pow-lt}
+use Rattle.base.specs.Lists.{tab, over}
+use Rattle.base.specs.ListLaws.{by-test, or-false}
+use Rattle.dataflow_domains.specs.Mask.{bit, holds, union, Sub}
+use Rattle.dataflow_domains.specs.MaskLaws.{ext, bit-low, bit-suc, bit-union, bit-lt, union-none, sub-refl, sub-trans, sub-union-r, union-lt, holds-false}
+use Rattle.borrow_analysis.specs.Graph.{Triple}
+use Rattle.borrow_analysis.specs.Borrows.{Seen, getParents, collectAncestors}
+use Rattle.borrow_analysis.specs.UpwardLaws.{union-comm, tab-more, tab-end}
+
+-- ---- one element more
+
+union-half : (a b : ℕ) → union a b / 2 ≡ union (a / 2) (b / 2)
+union-half a b =
+    ext (union a b / 2) (union (a / 2) (b / 2)) (λ i. sym (bit-suc (union a b) i) ∙ bit-union a b (suc i)
+    ∙ ap₂ max (bit-suc a i) (bit-suc b i) ∙ sym (bit-union (a / 2) (b / 2) i))
+
+union-odd : (a b : ℕ) → union a b % 2 ≡ max (a % 2) (b % 2)
+union-odd a b = sym (bit-low (union a b)) ∙ bit-union a b 0 ∙ ap₂ max (bit-low a) (bit-low b)
+
+-- a number put into a set that has it not: one element more
+pub ones-insert : (n m : ℕ) → bit m n ≡ 0 → ones (union m (2 ^ n)) ≡ suc (ones m)
+ones-insert zero m e =
+    omega (arith, ones-step (union m 1), ones-step m, union-odd m 1, ap ones (union-half m 1 ∙ union-none (m / 2)), bit-low m)
+ones-insert (suc n) m e =
+    let twice : 2 ^ suc n ≡ 2 ^ n * 2 = pow-suc 2 n in
+    let half : 2 ^ suc n / 2 ≡ 2 ^ n = omega arith in
+    omega (
+      arith,
+      ones-step (union m (2 ^ suc n)),
+      ones-step m,
+      union-odd m (2 ^ suc n),
+      ap ones (union-half m (2 ^ suc n) ∙ ap (union (m / 2)) half),
+      ones-insert n (m / 2) (sym (bit-suc m n) ∙ e),
+    )
+
+-- ---- `over`
+
+-- what each step keeps, the whole keeps
+pub over-keeps : {A B : Type 0} (P : B → Type 0) (f : B → A → B) (xs : List A) (b : B) → ((b : B) (x : A) → List·Memᴰ x xs → P b → P (f b x)) → P b → P (over f b xs)
+unfolding over
+over-keeps P f [] b h p = p
+over-keeps P f (x ∷ xs) b h p = over-keeps P f xs (f b x) (λ c y i. h c y (List·Memᴰ·tail i)) (h b x (List·Memᴰ·head refl) p)
+
+-- ---- the parents of a node
+
+pub in-parents : (ts : List Triple) (n p : ℕ) → List·Memᴰ p (getParents ts n) → (t : Triple) × List·Memᴰ t ts × (t .child ≡ n) × (p ≡ t .parent)
+unfolding getParents
+in-parents [] n p i = absurd (List·Memᴰ·not-nil i)
+in-parents (t ∷ ts) n p i =
+    by-test (λ b. List·Memᴰ p (cond b (t .parent ∷ getParents ts n) (getParents ts n)) → (u : Triple) × List·Memᴰ u (t ∷ ts) × (u .child ≡ n) × (p ≡ u .parent)) (eqb (t .child) n)
+    (λ e m. ⊎-elim (λ s. (t, List·Memᴰ·head refl, eqb-true (t .child) n e, s)) (λ m′. later (in-parents ts n p m′)) (List·Memᴰ·cases-cons m))
+    (λ e m. later (in-parents ts n p m)) i
+  where
+    later : ((u : Triple) × List·Memᴰ u ts × (u .child ≡ n) × (p ≡ u .parent)) → (u : Triple) × List·Memᴰ u (t ∷ ts) × (u .child ≡ n) × (p ≡ u .parent)
+    later r = (r .0, List·Memᴰ·tail (r .1), r .2, r .3)
+
+pub parents-in : (ts : List Triple) (t : Triple) → List·Memᴰ t ts → List·Memᴰ (t .parent) (getParents ts (t .child))
+unfolding getParents
+parents-in [] t i = absurd (List·Memᴰ·not-nil i)
+parents-in (u ∷ us) t i =
+    ⊎-elim
+    (λ s. subst (λ (x : Triple). List·Memᴰ (t .parent) (cond (eqb (x .child) (t .child)) (x .parent ∷ getParents us (t .child)) (getParents us (t .child)))) s
+    (subst (λ (b : Bool). List·Memᴰ (t .parent) (cond b (t .parent ∷ getParents us (t .child)) (getParents us (t .child)))) (sym (eq-eqb (t .child) (t .child) refl)) (List·Memᴰ·head refl)))
+    (λ m. by-test (λ b. List·Memᴰ (t .parent) (cond b (u .parent ∷ getParents us (t .child)) (getParents us (t .child)))) (eqb (u .child) (t .child))
+    (λ e. List·Memᴰ·tail (parents-in us t m)) (λ e. parents-in us t m)) (List·Memᴰ·cases-cons i)
+
+-- ---- one visit
+
+-- n is seen and listed
+abbrev pub listing : Seen → ℕ → Seen
+listing st n = record { mask = union (2 ^ n) (st .mask); listed = st .listed ++ (n ∷ []) }
+
+module _ (ts : List Triple) (used : ℕ) (st : Seen) (n : ℕ) where
+  pub collect-zero : (d : ℕ) → d ≡ 0 → st ≡ collectAncestors d ts used st n
+  unfolding collectAncestors
+  collect-zero d e = rw e
+
+  pub collect-skip : (d : ℕ) → holds (st .mask) n || holds used n ≡ true → st ≡ collectAncestors d ts used st n
+  unfolding collectAncestors
+  collect-skip zero e = refl
+  collect-skip (suc d) e =
+      ap (λ (b : Bool). elim b as (λ _. Seen) [ true ↦ st | false ↦ over (collectAncestors d ts used) (listing st n) (getParents ts n) ]) (sym e)
+
+  pub collect-new : (d : ℕ) → 0 < d → holds (st .mask) n || holds used n ≡ false
+      → over (collectAncestors (d - 1) ts used) (listing st n) (getParents ts n) ≡ collectAncestors d ts used st n
+  unfolding collectAncestors
+  collect-new zero h e = absurd (omega arith)
+  collect-new (suc d) h e =
+      let less : suc d - 1 ≡ d = omega arith in
+      ap (λ (k : ℕ). over (collectAncestors k ts used) (listing st n) (getParents ts n)) less
+      ∙ ap (λ (b : Bool). elim b as (λ _. Seen) [ true ↦ st | false ↦ over (collectAncestors d ts used) (listing st n) (getParents ts n) ]) (sym e)
+
+-- ---- what is seen grows
+
+-- as many are listed as are seen, each below c
+pub record Fair (c : ℕ) (st : Seen) : Type 0 where
+  pub each : length (st .listed) ≡ ones (st .mask)
+  pub small : st .mask < 2 ^ c
+
+pub record Grows (c : ℕ) (old new : Seen) : Type 0 where
+  pub fair : Fair c new
+  pub has : Sub (old .mask) (new .mask)
+
+pub list-grows : {c : ℕ} (st : Seen) (n : ℕ) → Fair c st → n < c → holds (st .mask) n ≡ false → Grows c st (listing st n)
+list-grows {c} st n w h e = record {
+  fair = record {
+    each = length-append (st .listed) (n ∷ []) ∙ omega (arith, w .each, ap ones (union-comm (2 ^ n) (st .mask)), ones-insert n (st .mask) (holds-false (st .mask) n e));
+    small = union-lt c (2 ^ n) (st .mask) (pow-lt h) (w .small);
+  };
+  has = sub-union-r (2 ^ n) (st .mask);
+}
+
+module _ (ts : List Triple) (used c : ℕ) (inside : (t : Triple) → List·Memᴰ t ts → t .parent < c) where
+  pub collect-grows : (d : ℕ) (st : Seen) (n : ℕ) → n < c → Fair c st → Grows c st (collectAncestors d ts used st n)
+  unfolding collectAncestors
+  collect-grows zero st n h w = record { fair = w; has = sub-refl (st .mask) }
+  collect-grows (suc d) st n h w =
+      by-test (λ b. Grows c st (elim b [ true ↦ st | false ↦ over (collectAncestors d ts used) (listing st n) (getParents ts n) ])) (holds (st .mask) n || holds used n)
+      (λ e. record { fair = w; has = sub-refl (st .mask) })
+      (λ e. over-keeps (Grows c st) (collectAncestors d ts used) (getParents ts n) (listing st n)
+      (λ s p i g. next g (collect-grows d s p (below p i) (g .fair))) (list-grows st n w h (or-false (holds (st .mask) n) (holds used n) e .0)))
+    where
+      below : (p : ℕ) → List·Memᴰ p (getParents ts n) → p < c
+      below p i = let r = in-parents ts n p i in omega (arith, inside (r .0) (r .1), r .3)
+
+      next : {a b : Seen} → Grows c st a → Grows c a b → Grows c st b
+      next g k = record { fair = k .fair; has = sub-trans (g .has) (k .has) }
+
+-- ---- the loop over the triples, from i on
+
+module _ {B : Type 0} (f : B → ℕ → B) (g : ℕ → Triple) (n x : ℕ) where
+  pub up-more : (st : B) (i : ℕ) → i < n → g i .child ≡ x → over f st (getParents (tab (n - i) i g) x) ≡ over f (f st (g i .parent)) (getParents (tab (n - (i + 1)) (i + 1) g) x)
+  unfolding over getParents
+  up-more st i h e = rw (tab-more n i g h, eq-eqb (g i .child) x e)
+
+  pub up-same : (st : B) (i : ℕ) → i < n → (g i .child ≡ x → ⊥) → over f st (getParents (tab (n - i) i g) x) ≡ over f st (getParents (tab (n - (i + 1)) (i + 1) g) x)
+  unfolding over getParents
+  up-same st i h e = rw (tab-more n i g h, ne-eqb (g i .child) x e)
+
+  pub up-end : (st : B) (i : ℕ) → n ≤ i → over f st (getParents (tab (n - i) i g) x) ≡ st
+  unfolding over getParents
+  up-end st i h = rw (tab-end n i g h)

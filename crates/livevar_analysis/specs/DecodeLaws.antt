@@ -1,0 +1,180 @@
+-- A decoded rule does what the live rule of its instruction says, and so does each rule in the slices. Assumes nothing.
+use mathlib.Core.Path.{_≡_, refl, sym, ap, _∙_, subst}
+use mathlib.Core.Logic.{_⊎_, inl, inr, _≢_, ⊎-elim}
+use mathlib.Core.Bool.{Bool, true, false, cond}
+use mathlib.Core.List.{List, [], _∷_, _++_}
+use Prim.Native.Nat.{ℕ, _+_, _*_, _^_, _≤_, _<_}
+use native.Mathlib.Nat.{not-suc-le-zero}
+use native.Mathlib.Numerals.{add-one}
+use native.Mathlib.Omega.{arith}
+use borrow.Author.Tests.{eq-eqb, ne-eqb}
+use lib.Dec.{eqb}
+use lib.ListN.{getD, length, take}
+use lib.Seq.{take-suc, getD-set-same, getD-set-other}
+use mir.Val.{boolByte}
+use Rattle.base.specs.Sizes.{setWords}
+use Rattle.base.specs.ListLaws.{by-test, by-eq}
+use Rattle.dataflow_domains.specs.Mask.{bit, holds, union, minus, setOf}
+use Rattle.dataflow_domains.specs.MaskLaws.{ext, bit-union, bit-minus, bit-empty, bit-self, bit-other, bit-lt, minus-none, holds-true, holds-false}
+use Rattle.dataflow_domains.specs.Sets.{setAt, setsOf, Stored}
+use Rattle.dataflow_domains.specs.SliceLaws.{masks-length}
+use Rattle.dataflow_analysis.specs.ReceiptLaws.{at-node}
+use Rattle.stackless_bytecode.specs.declared.Bytecode.{Bytecode}
+use Rattle.stackless_bytecode.specs.Kinds.{at, dstsOf, srcsOf, isFlagged}
+use Rattle.livevar_analysis.specs.Live.{assigned, called, execute}
+use Rattle.livevar_analysis.specs.RuleLaws.{assign-rule, load-rule}
+use Rattle.livevar_analysis.specs.Rules.{applied, ruleAt, Ruled, RuleRoom, RulePut}
+
+-- ---- the set of a list, one place after the other
+
+union-assoc : (a b c : ℕ) → union a (union b c) ≡ union (union a b) c
+union-assoc a b c =
+    ext _ _ (λ i. omega (arith, bit-union a (union b c) i, bit-union b c i, bit-union (union a b) c i, bit-union a b i))
+
+setOf-end : (xs : List ℕ) (x : ℕ) → setOf (xs ++ (x ∷ [])) ≡ union (setOf xs) (2 ^ x)
+unfolding setOf
+setOf-end [] x = ext _ _ (λ i. omega (arith, bit-union (2 ^ x) 0 i, bit-union 0 (2 ^ x) i))
+setOf-end (y ∷ xs) x = ap (union (2 ^ y)) (setOf-end xs x) ∙ union-assoc (2 ^ y) (setOf xs) (2 ^ x)
+
+pub setOf-more : (xs : List ℕ) (i m : ℕ) → i < length xs → m ≡ setOf (take i xs) → union m (2 ^ getD xs i 0) ≡ setOf (take (i + 1) xs)
+setOf-more xs i m h e =
+    ap (λ (s : ℕ). union s (2 ^ getD xs i 0)) e ∙ sym (setOf-end (take i xs) (getD xs i 0))
+    ∙ ap setOf (sym (take-suc xs i 0 h)) ∙ ap (λ (n : ℕ). setOf (take n xs)) (sym (add-one i))
+
+-- ---- by kind
+
+-- the source comes in only where the destination was live
+applied-assign : (d ss m : ℕ) → applied true (2 ^ d) ss m ≡ assigned d ss m
+unfolding applied assigned
+applied-assign d ss m =
+    by-test (λ b. holds m d ≡ b → cond (eqb (minus m (2 ^ d)) m) m (union ss (minus m (2 ^ d))) ≡ cond b (union ss (minus m (2 ^ d))) m) (holds m d)
+    (λ t q. ap (λ (b : Bool). cond b m (union ss (minus m (2 ^ d)))) (ne-eqb (minus m (2 ^ d)) m (λ e. omega (arith, ap (λ (x : ℕ). bit x d) e, bit-minus m (2 ^ d) d, bit-self d, holds-true m d t))))
+    (λ t q. ap (λ (b : Bool). cond b m (union ss (minus m (2 ^ d)))) (eq-eqb (minus m (2 ^ d)) m (kept (holds-false m d t)))) refl
+  where
+    kept : bit m d ≡ 0 → minus m (2 ^ d) ≡ m
+    kept z =
+        ext _ _ (λ i. by-eq i d (λ e. omega (arith, ap (bit (minus m (2 ^ d))) e, ap (bit m) e, bit-minus m (2 ^ d) d)) (λ g. omega (arith, bit-minus m (2 ^ d) i, bit-other d i (λ e. g (sym e)))))
+
+minus-union : (a b c : ℕ) → minus (union a b) c ≡ union (minus a c) (minus b c)
+minus-union a b c =
+    ext _ _ (λ i. omega (arith, bit-minus (union a b) c i, bit-union a b i, bit-union (minus a c) (minus b c) i, bit-minus a c i, bit-minus b c i))
+
+minus-minus : (a b c : ℕ) → minus (minus a b) c ≡ minus a (union b c)
+minus-minus a b c =
+    ext _ _ (λ i. omega (arith, bit-minus (minus a b) c i, bit-minus a b i, bit-minus a (union b c) i, bit-union b c i, bit-lt a i))
+
+-- what goes out last never comes in
+applied-call : (ds ss gone m : ℕ) → applied false (union ds gone) (minus ss gone) m ≡ called ds ss gone m
+unfolding applied called
+applied-call ds ss gone m = sym (minus-union ss (minus m ds) gone ∙ ap (union (minus ss gone)) (minus-minus m ds gone))
+
+applied-load : (kills m : ℕ) → applied false kills 0 m ≡ minus m kills
+unfolding applied
+applied-load kills m = ext _ _ (λ i. omega (arith, bit-union 0 (minus m kills) i, bit-empty i))
+
+applied-sources : (ss m : ℕ) → applied false 0 ss m ≡ union ss m
+unfolding applied
+applied-sources ss m = ap (union ss) (minus-none m)
+
+-- ---- each arm
+
+-- the abort local is asked for only of a flagged Call
+pub flagged : (r : Bytecode) → r .kind ≡ 1 → r .flag ≡ 1 → isFlagged r ≡ true
+unfolding isFlagged
+flagged r k f = rw (k, f)
+
+module _ (r : Bytecode) (kills gens m : ℕ) where
+  pub decoded-assign : r .kind ≡ 0 → kills ≡ 2 ^ getD (r .dsts) 0 0 → gens ≡ setOf (take (r .nsrc) (r .srcs)) → applied true kills gens m ≡ execute r m
+  unfolding srcsOf
+  decoded-assign k e f = rw (e, f) (applied-assign (getD (r .dsts) 0 0) (setOf (srcsOf r)) m ∙ sym (assign-rule r m k))
+
+  pub decoded-load : r .kind ≡ 3 → kills ≡ 2 ^ getD (r .dsts) 0 0 → gens ≡ 0 → applied false kills gens m ≡ execute r m
+  decoded-load k e f = rw (e, f) (applied-load (2 ^ getD (r .dsts) 0 0) m ∙ sym (load-rule r m k))
+
+  call-is : r .kind ≡ 1 → execute r m ≡ called (setOf (take (r .ndst) (r .dsts))) (setOf (take (r .nsrc) (r .srcs))) (cond (eqb (r .flag) 1) (2 ^ r .abort) 0) m
+  unfolding execute dstsOf srcsOf
+  call-is k = rw k
+
+  pub decoded-call : r .kind ≡ 1 → (ds ss gone : ℕ) → ds ≡ setOf (take (r .ndst) (r .dsts)) → ss ≡ setOf (take (r .nsrc) (r .srcs)) → gone ≡ cond (eqb (r .flag) 1) (2 ^ r .abort) 0
+      → kills ≡ union ds gone → gens ≡ minus ss gone → applied false kills gens m ≡ execute r m
+  decoded-call k ds ss gone p q g e f = rw (e, f) (applied-call ds ss gone m ∙ rw (p, q, g) (sym (call-is k)))
+
+  -- Ret, Branch, Abort, Prop
+  sources-is : (r .kind ≡ 2) ⊎ ((r .kind ≡ 4) ⊎ ((r .kind ≡ 7) ⊎ (r .kind ≡ 11))) → execute r m ≡ union (setOf (take (r .nsrc) (r .srcs))) m
+  unfolding execute srcsOf
+  sources-is k = ⊎-elim (λ e. rw e) (⊎-elim (λ e. rw e) (⊎-elim (λ e. rw e) (λ e. rw e))) k
+
+  pub decoded-sources : (r .kind ≡ 2) ⊎ ((r .kind ≡ 4) ⊎ ((r .kind ≡ 7) ⊎ (r .kind ≡ 11))) → kills ≡ 0 → gens ≡ setOf (take (r .nsrc) (r .srcs))
+      → applied false kills gens m ≡ execute r m
+  decoded-sources k e f = rw (e, f) (applied-sources (setOf (take (r .nsrc) (r .srcs))) m ∙ sym (sources-is k))
+
+  -- no kind that the rules name
+  none-is : (r .kind ≡ 0 → ⊥) → (r .kind ≡ 1 → ⊥) → ((r .kind ≡ 2) ⊎ ((r .kind ≡ 4) ⊎ ((r .kind ≡ 7) ⊎ (r .kind ≡ 11))) → ⊥) → (r .kind ≡ 3 → ⊥) → execute r m ≡ m
+  unfolding execute
+  none-is a b s l =
+      let two : eqb (r .kind) 2 ≡ false = ne-eqb _ 2 (λ e. s (inl e)) in
+      let four : eqb (r .kind) 4 ≡ false = ne-eqb _ 4 (λ e. s (inr (inl e))) in
+      let seven : eqb (r .kind) 7 ≡ false = ne-eqb _ 7 (λ e. s (inr (inr (inl e)))) in
+      let eleven : eqb (r .kind) 11 ≡ false = ne-eqb _ 11 (λ e. s (inr (inr (inr e)))) in
+      rw (ne-eqb _ 0 a, ne-eqb _ 1 b, ne-eqb _ 3 l, two, four, seven, eleven)
+
+  pub decoded-none : (r .kind ≡ 0 → ⊥) → (r .kind ≡ 1 → ⊥) → ((r .kind ≡ 2) ⊎ ((r .kind ≡ 4) ⊎ ((r .kind ≡ 7) ⊎ (r .kind ≡ 11))) → ⊥) → (r .kind ≡ 3 → ⊥)
+      → kills ≡ 0 → gens ≡ 0 → applied false kills gens m ≡ execute r m
+  decoded-none a b s l e f = rw (e, f) (applied-load 0 m ∙ minus-none m ∙ sym (none-is a b s l))
+
+-- ---- a set that is stored in a slice
+
+pub sets-length : (n : ℕ) (words : List ℕ) → length (setsOf n words) ≡ n
+unfolding setsOf
+sets-length n words = masks-length 64 setWords n words
+
+module _ (old : List ℕ) (i m : ℕ) (new : List ℕ) (stored : Stored old i m new) (n : ℕ) (inside : i < n) (fits : n * setWords ≤ length old) where
+  stored-here : setAt new i ≡ m
+  stored-here =
+      sym (at-node n new i inside) ∙ ap (λ (l : List ℕ). getD l i 0) (stored .sets n inside fits)
+      ∙ getD-set-same (setsOf n old) i m 0 (subst (λ (x : ℕ). i < x) (sym (sets-length n old)) inside)
+
+  stored-other : (j : ℕ) → j < n → j ≢ i → setAt new j ≡ setAt old j
+  stored-other j h g =
+      sym (at-node n new j h) ∙ ap (λ (l : List ℕ). getD l j 0) (stored .sets n inside fits)
+      ∙ getD-set-other (setsOf n old) i j m 0 g ∙ at-node n old j h
+
+-- ---- the loop: the rules of the first n instructions are in the slices
+
+pub record RuledTo (code : List Bytecode) (n : ℕ) (kills gens assigns : List ℕ) : Type 0 where
+  pub each : (k m : ℕ) → k < n → ruleAt kills gens assigns k m ≡ execute (at code k) m
+
+pub ruled-none : (code : List Bytecode) (kills gens assigns : List ℕ) → RuledTo code 0 kills gens assigns
+ruled-none code kills gens assigns = record { each = λ k m h. absurd (not-suc-le-zero h) }
+
+pub ruled-all : (code : List Bytecode) (n : ℕ) (kills gens assigns : List ℕ) → length code ≤ n → RuledTo code n kills gens assigns → Ruled code kills gens assigns
+ruled-all code n kills gens assigns l r = record { each = λ k m h. r .each k m (omega arith) }
+
+byte-is : (b : Bool) → eqb (boolByte b) 1 ≡ b
+byte-is true = refl
+byte-is false = refl
+
+module _ (code : List Bytecode) (n : ℕ) (kills gens assigns : List ℕ) (kill gen : ℕ) (assign : Bool) (kills₁ gens₁ assigns₁ : List ℕ)
+    (room : RuleRoom (n + 1) kills gens assigns) (put : RulePut kills gens assigns n kill gen assign kills₁ gens₁ assigns₁) where
+  last : n < n + 1
+  last = omega arith
+
+  -- the new rule, and those before it
+  flag-here : eqb (getD assigns₁ n 0) 1 ≡ assign
+  flag-here =
+      ap (λ (l : List ℕ). eqb (getD l n 0) 1) (put .flagged)
+      ∙ ap (λ (x : ℕ). eqb x 1) (getD-set-same assigns n (boolByte assign) 0 (omega (arith, room .assigns-fit))) ∙ byte-is assign
+
+  flag-other : (k : ℕ) → k ≢ n → eqb (getD assigns₁ k 0) 1 ≡ eqb (getD assigns k 0) 1
+  flag-other k g = ap (λ (l : List ℕ). eqb (getD l k 0) 1) (put .flagged) ∙ ap (λ (x : ℕ). eqb x 1) (getD-set-other assigns n k (boolByte assign) 0 g)
+
+  pub ruled-more : ((m : ℕ) → applied assign kill gen m ≡ execute (at code n) m) → RuledTo code n kills gens assigns → RuledTo code (n + 1) kills₁ gens₁ assigns₁
+  ruled-more is r = record { each = λ k m h. by-eq k n (λ e. here k m e) (λ g. other k m h g) }
+    where
+      here : (k m : ℕ) → k ≡ n → ruleAt kills₁ gens₁ assigns₁ k m ≡ execute (at code k) m
+      here k m e =
+          rw (e, flag-here, stored-here kills n kill kills₁ (put .killed) (n + 1) last (room .kills-fit), stored-here gens n gen gens₁ (put .genned) (n + 1) last (room .gens-fit)) (is m)
+
+      other : (k m : ℕ) → k < n + 1 → k ≢ n → ruleAt kills₁ gens₁ assigns₁ k m ≡ execute (at code k) m
+      other k m h g =
+          rw (flag-other k g, stored-other kills n kill kills₁ (put .killed) (n + 1) last (room .kills-fit) k h g, stored-other gens n gen gens₁ (put .genned) (n + 1) last (room .gens-fit) k h g) (r .each k m (omega arith))

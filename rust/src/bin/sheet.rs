@@ -1,0 +1,33 @@
+//! Sheets by hand: `sheet assemble TEXT SHEET` writes the sheet of a text, `sheet list SHEET` prints the text of a sheet.
+use sorzibelu::{check, sheet::Sheet, text};
+use std::{env, fs, process::ExitCode};
+
+fn run(args: &[String]) -> Result<(), String> {
+    let read = |name: &str| fs::read(name).map_err(|e| format!("{name}: {e}"));
+    match args.iter().map(String::as_str).collect::<Vec<_>>()[..] {
+        ["assemble", from, to] => {
+            let text = String::from_utf8(read(from)?).map_err(|_| format!("{from}: not a text"))?;
+            let sheet = text::assemble(&text).map_err(|f| format!("{from}: {f}"))?.bytes();
+            check(&sheet).map_err(|r| format!("{from}: {r}"))?;
+            fs::write(to, sheet).map_err(|e| format!("{to}: {e}"))
+        }
+        ["list", from] => {
+            let bytes = read(from)?;
+            check(&bytes).map_err(|r| format!("{from}: {r}"))?;
+            print!("{}", text::list(&Sheet::of_bytes(&bytes)));
+            Ok(())
+        }
+        _ => Err("usage: sheet assemble TEXT SHEET | sheet list SHEET".into()),
+    }
+}
+
+fn main() -> ExitCode {
+    let args: Vec<String> = env::args().skip(1).collect();
+    match run(&args) {
+        Ok(()) => ExitCode::SUCCESS,
+        Err(e) => {
+            eprintln!("{e}");
+            ExitCode::FAILURE
+        }
+    }
+}
