@@ -8,7 +8,7 @@ use native.Mathlib.Omega.{arith}
 use lib.ListN.{getD, length, drop, length-append}
 use Rattle.base.specs.Sizes.{setBytes}
 use Rattle.base.specs.Bytes.{part, bytesOf}
-use Rattle.base.specs.ByteLaws.{bytes-length}
+use Rattle.dataflow_domains.specs.ByteLaws.{bytes-length}
 use Rattle.base.specs.PartLaws.{gather-length}
 use Rattle.base.specs.Refusals.{Accepted, Refused, Reply, No, Done, Result, resultOf, left}
 use Rattle.base.specs.ReplyLaws.{reply-refused, reply-short, reply-done}

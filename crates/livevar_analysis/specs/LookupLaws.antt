@@ -17,11 +17,13 @@ use Rattle.sheet.specs.CheckLaws.{code-length, code-sound}
 use Rattle.sheet.specs.Valid.{accepted-valid}
 use Rattle.stackless_control_flow_graph.specs.Blocks.{lowerOf, upperOf, keyed, keyOf}
 use Rattle.stackless_control_flow_graph.specs.BlockLaws.{Start, lower-starts, lower-le, keyed-in, in-keyed}
-use Rattle.stackless_control_flow_graph.specs.Arrays.{Heads, Gives, takers}
-use Rattle.stackless_control_flow_graph.specs.FlowLaws.{cut-numbered}
+use Rattle.stackless_control_flow_graph.specs.Arrays.{Heads, Gives, takers, Ready, Cut, Numbered}
+use Rattle.stackless_control_flow_graph.specs.Sorting.{Leads}
+use Rattle.stackless_bytecode.specs.declared.Bytecode.{Bytecode}
+use Rattle.stackless_control_flow_graph.specs.FlowLaws.{cut-numbered, order-ready, keys-low}
 use Rattle.stackless_control_flow_graph.specs.CallLaws.{blocks-few}
 use Rattle.stackless_control_flow_graph.specs.KeyLaws.{key-some}
-use Rattle.livevar_analysis.specs.Prepared.{BlocksOf, KeysOf, LookupsOf}
+use Rattle.livevar_analysis.specs.Prepared.{RulesOf, BlocksOf, KeysOf, LookupsOf, Prepared}
 
 module _ {s goes ls uppers marks key order : List ℕ} {m : ℕ} (b : BlocksOf s goes ls uppers marks m) (k : KeysOf s key order m) where
   sound : Sound (codeOf s)
@@ -83,9 +85,51 @@ pub keys-of : {s goes ls uppers marks key₀ order₀ key order : List ℕ} {m r
     → Gives (gather (takers goes uppers) (take m ls)) key₀ order₀ 0 key order r → length key ≡ maxInstructions → length order ≡ maxInstructions
     → BlocksOf s goes ls uppers marks r × KeysOf s key order r
 keys-of {s} {goes} {ls} {uppers} {marks} b g long-key long-order =
-    let num = cut-numbered (codeOf s) (code-sound s (b .accepted)) _ goes ls uppers (b .cut) _ _ _ _ _ g in
-    (subst (BlocksOf s goes ls uppers marks) (b .cut .count ∙ sym (num .count)) b, record {
-      numbered = num;
-      key-long = omega (arith, few-count s (length (codeOf s)) (b .accepted) refl);
-      order-long = omega (arith, num .count, blocks-few (codeOf s), few-count s (length (codeOf s)) (b .accepted) refl);
-    })
+    let num = cut-numbered (codeOf s) (code-sound s (b .accepted)) _ goes ls uppers (b .cut) _ _ _ _ _ g in (
+      subst (BlocksOf s goes ls uppers marks) (b .cut .count ∙ sym (num .count)) b,
+      record {
+        numbered = num;
+        key-long = omega (arith, few-count s (length (codeOf s)) (b .accepted) refl);
+        order-long = omega (arith, num .count, blocks-few (codeOf s), few-count s (length (codeOf s)) (b .accepted) refl);
+      },
+    )
+
+-- ---- the backward graph, and all tables
+
+module _ {s goes ls uppers marks key order : List ℕ} {m : ℕ} (b : BlocksOf s goes ls uppers marks m) (k : KeysOf s key order m) where
+  pub few-blocks : m ≤ maxInstructions
+  few-blocks = omega (arith, b .cut .count, blocks-few (codeOf s), few-count s (length (codeOf s)) (b .accepted) refl)
+
+  pub some-keys : 0 < length key
+  some-keys = omega (arith, k .key-long, code-length s, accepted-valid s (b .accepted) .some)
+
+  pub order-blocks : Ready goes order uppers m (length key)
+  order-blocks = order-ready (codeOf s) (code-sound s (b .accepted)) m goes ls uppers (b .cut) key order m (k .key-long) (k .numbered) (length key) (k .key-long)
+
+  pub low-keys : (o : ℕ) → getD key o 0 < m + 2
+  low-keys = keys-low (codeOf s) (code-sound s (b .accepted)) m goes ls uppers (b .cut) key order m (k .key-long) (k .numbered)
+
+  pub prepared : {kills gens assigns starts edges ups keys : List ℕ} → RulesOf s kills gens assigns → LookupsOf s order ups keys → m + 5 ≤ length starts
+      → ((code : List Bytecode) (ls : List ℕ) → Sound code → Cut code m goes ls uppers → length code ≤ length key → Numbered code key order m → Leads code m starts edges)
+      → Prepared s kills gens assigns edges starts order ups marks keys
+  prepared {starts = starts} {edges = edges} r l long leads =
+      let all = all-keys b k in
+      let lead = leads (codeOf s) ls (code-sound s (b .accepted)) (b .cut) (k .key-long) (k .numbered) in
+      record {
+        accepted = b .accepted;
+        tables = record {
+          ruled = r .ruled;
+          room = r .room;
+          edges = record {
+            long = omega (arith, all);
+            order = λ i h g. lead .grows i (omega (arith, all));
+            inside = λ i h g. lead .inside i (omega (arith, all));
+            part = λ i h g. lead .each i (omega (arith, all));
+          };
+          bounds = l .bounds;
+        };
+        marked = b .marked;
+        marks-fit = b .marks-fit;
+        keys-are = l .keys-are;
+        keys-fit = l .keys-fit;
+      }

@@ -23,6 +23,7 @@ use base::SET_WORDS;
 use sheet::Checked;
 use sheet::check::check_into;
 use sheet::reader::u16_at;
+use stackless_control_flow_graph::backward::lead_all;
 use stackless_control_flow_graph::blocks::cut;
 use stackless_control_flow_graph::blocks::find_heads;
 use stackless_control_flow_graph::keys::give_all;
@@ -36,6 +37,11 @@ const RULE_WORDS: usize = MAX_INSTRUCTIONS * SET_WORDS;
 
 // The bytes of an instruction's two sets.
 const PAIR_BYTES: usize = 2 * SET_BYTES;
+
+// Where each key's part of the backward graph starts, with room for the counts; and three slots for each key.
+const STARTS: usize = MAX_INSTRUCTIONS + 5;
+
+const EDGES: usize = 3 * NODES;
 
 // Two slots an instruction, and a mark more than instructions.
 const SLOTS: usize = 2 * MAX_INSTRUCTIONS;
@@ -139,8 +145,22 @@ fn with_edges(
     requires { ⌜ RulesOf (now sheet) (now kills) (now gens) (now assigns) × BlocksOf (now sheet) (now goes) (now lowers) (now uppers) (now marks) m × KeysOf (now sheet) (now key) (now order) m × LookupsOf (now sheet) (now order) (now ups) (now keys) × (2 * setBytes * length (codeOf (now sheet)) ≤ length (now out)) ⌝ }
     ensures { λ r. ⌜ LiveWritten (now (sheet .entry)) r (now (out .entry)) (now (out .exit)) ⌝ }
 {
+    let mut starts = [0u16; STARTS];
+    let mut edges = [0u16; EDGES];
+    lead_all(goes, order, m, uppers, key, &mut starts, &mut edges);
     run_blank(
-        sheet, kills, gens, assigns, goes, goes, order, ups, marks, keys, m, out,
+        sheet,
+        kills,
+        gens,
+        assigns,
+        &edges,
+        &starts,
+        order,
+        ups,
+        marks,
+        keys,
+        m,
+        out,
     )
 }
 
@@ -170,7 +190,20 @@ fn with_lookups(
     pick_each(key, &heads, n, &mut keys);
     pick_each(uppers, order, m, &mut ups);
     with_edges(
-        sheet, kills, gens, assigns, goes, lowers, uppers, marks, key, order, m, &ups, &keys, out,
+        sheet,
+        kills,
+        gens,
+        assigns,
+        goes,
+        lowers,
+        uppers,
+        marks,
+        key,
+        order,
+        m,
+        &ups,
+        &keys,
+        out,
     )
 }
 
@@ -194,7 +227,18 @@ fn with_keys(
     let mut order = [0u16; MAX_INSTRUCTIONS];
     let all = give_all(goes, lowers, m, uppers, &mut key, &mut order);
     with_lookups(
-        sheet, kills, gens, assigns, goes, lowers, uppers, marks, &key, &order, all, out,
+        sheet,
+        kills,
+        gens,
+        assigns,
+        goes,
+        lowers,
+        uppers,
+        marks,
+        &key,
+        &order,
+        all,
+        out,
     )
 }
 
@@ -215,8 +259,27 @@ fn with_blocks(
     let mut marks = [0u8; MARKS];
     let mut lowers = [0u16; MAX_INSTRUCTIONS];
     let mut uppers = [0u16; MAX_INSTRUCTIONS];
-    let m = cut(sheet, n, targets, &mut goes, &mut marks, &mut lowers, &mut uppers);
-    with_keys(sheet, kills, gens, assigns, &goes, &lowers, &uppers, &marks, m, out)
+    let m = cut(
+        sheet,
+        n,
+        targets,
+        &mut goes,
+        &mut marks,
+        &mut lowers,
+        &mut uppers,
+    );
+    with_keys(
+        sheet,
+        kills,
+        gens,
+        assigns,
+        &goes,
+        &lowers,
+        &uppers,
+        &marks,
+        m,
+        out,
+    )
 }
 
 // The live sets of an accepted sheet of n instructions, as bytes at the front of `out`; the result is how many blocks were taken.
