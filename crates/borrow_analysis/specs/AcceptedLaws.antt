@@ -113,7 +113,7 @@ module _ (g : Given) (node : ℕ) where
   unfolding conditionalReply isConditional above graphOf reply resultOf
   conditional-done m n b a w e h =
       let is : n ≡ manyIn (g .count) 0 (triplesOf (g .numbers)) =
-        many-is (g .count) n (triplesOf (g .numbers)) w (λ j l. incoming-out (length (g .numbers) / 3) 0 (g .count) (tripleAt (g .numbers)) j (λ k q. accepted-asked g node (sym a) .0 .inside .children k (omega arith)) l) in
+      many-is (g .count) n (triplesOf (g .numbers)) w (λ j l. incoming-out (length (g .numbers) / 3) 0 (g .count) (tripleAt (g .numbers)) j (λ k q. accepted-asked g node (sym a) .0 .inside .children k (omega arith)) l) in
       rw (← a, ← is, ← e, h)
 
 -- ---- dying: the number and the value, and what was lent
@@ -140,6 +140,7 @@ module _ (here next : Given) (lent : List ℕ) where
       → (_≡_ {A = Result} (record { number = 0; value = k }) (resultOf (dyingReply here next (length lent)))) × (new ≡ left (dyingReply here next (length lent)) lent)
   unfolding dyingReply reply resultOf left
   dying-done e h u f v =
-      let same = dying-same u f in
-      (rw (← e, le-ltb (length lent) (here .count) h) (ap (λ (n : ℕ). record { number = 0; value = n }) (v .count ∙ ap length same)),
-       rw (← e, le-ltb (length lent) (here .count) h) (v .wrote ∙ ap (λ (l : List ℕ). l ++ drop (length l) lent) same))
+      let same = dying-same u f in (
+        rw (← e, le-ltb (length lent) (here .count) h) (ap (λ (n : ℕ). record { number = 0; value = n }) (v .count ∙ ap length same)),
+        rw (← e, le-ltb (length lent) (here .count) h) (v .wrote ∙ ap (λ (l : List ℕ). l ++ drop (length l) lent) same),
+      )

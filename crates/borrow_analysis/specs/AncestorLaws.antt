@@ -36,8 +36,14 @@ ones-insert zero m e =
 ones-insert (suc n) m e =
     let twice : 2 ^ suc n ≡ 2 ^ n * 2 = pow-suc 2 n in
     let half : 2 ^ suc n / 2 ≡ 2 ^ n = omega arith in
-    omega (arith, ones-step (union m (2 ^ suc n)), ones-step m, union-odd m (2 ^ suc n), ap ones (union-half m (2 ^ suc n) ∙ ap (union (m / 2)) half),
-    ones-insert n (m / 2) (sym (bit-suc m n) ∙ e))
+    omega (
+      arith,
+      ones-step (union m (2 ^ suc n)),
+      ones-step m,
+      union-odd m (2 ^ suc n),
+      ap ones (union-half m (2 ^ suc n) ∙ ap (union (m / 2)) half),
+      ones-insert n (m / 2) (sym (bit-suc m n) ∙ e),
+    )
 
 -- ---- `over`
 

@@ -155,18 +155,24 @@ module _ (ts : List Triple) (t : Triple) {once many : ℕ} (w : Counted ts once 
       (λ g. with-other once (t .child) k g ∙ w .one k ∙ ap (ltb 0) (sym (incoming-other ts t k g)))
 
   counted-again : holds once (t .child) ≡ true → Counted (ts ++ (t ∷ [])) (union once (2 ^ t .child)) (union many (2 ^ t .child))
-  counted-again e = record { one = counted-one; two = λ k. by-eq k (t .child)
-      (λ s. subst (λ (j : ℕ). holds (union many (2 ^ t .child)) j ≡ ltb 1 (incoming (ts ++ (t ∷ [])) j)) (sym s)
-      (with-this many (t .child) ∙ sym (lt-ltb 1 (incoming (ts ++ (t ∷ [])) (t .child)) (omega (arith, incoming-here ts t, ltb-true 0 (incoming ts (t .child)) (sym (w .one (t .child)) ∙ e))))))
-      (λ g. with-other many (t .child) k g ∙ w .two k ∙ ap (ltb 1) (sym (incoming-other ts t k g))) }
+  counted-again e = record {
+    one = counted-one;
+    two = λ k. by-eq k (t .child)
+        (λ s. subst (λ (j : ℕ). holds (union many (2 ^ t .child)) j ≡ ltb 1 (incoming (ts ++ (t ∷ [])) j)) (sym s)
+        (with-this many (t .child) ∙ sym (lt-ltb 1 (incoming (ts ++ (t ∷ [])) (t .child)) (omega (arith, incoming-here ts t, ltb-true 0 (incoming ts (t .child)) (sym (w .one (t .child)) ∙ e))))))
+        (λ g. with-other many (t .child) k g ∙ w .two k ∙ ap (ltb 1) (sym (incoming-other ts t k g)));
+  }
 
   counted-first : holds once (t .child) ≡ false → Counted (ts ++ (t ∷ [])) (union once (2 ^ t .child)) many
   counted-first e =
       let none : incoming ts (t .child) ≤ 0 = ltb-false 0 (incoming ts (t .child)) (sym (w .one (t .child)) ∙ e) in
-      record { one = counted-one; two = λ k. by-eq k (t .child)
-      (λ s. subst (λ (j : ℕ). holds many j ≡ ltb 1 (incoming (ts ++ (t ∷ [])) j)) (sym s)
-      (w .two (t .child) ∙ le-ltb 1 (incoming ts (t .child)) (omega arith) ∙ sym (le-ltb 1 (incoming (ts ++ (t ∷ [])) (t .child)) (omega (arith, incoming-here ts t)))))
-      (λ g. w .two k ∙ ap (ltb 1) (sym (incoming-other ts t k g))) }
+      record {
+        one = counted-one;
+        two = λ k. by-eq k (t .child)
+            (λ s. subst (λ (j : ℕ). holds many j ≡ ltb 1 (incoming (ts ++ (t ∷ [])) j)) (sym s)
+            (w .two (t .child) ∙ le-ltb 1 (incoming ts (t .child)) (omega arith) ∙ sym (le-ltb 1 (incoming (ts ++ (t ∷ [])) (t .child)) (omega (arith, incoming-here ts t)))))
+            (λ g. w .two k ∙ ap (ltb 1) (sym (incoming-other ts t k g)));
+      }
 
 -- triple i leads to k, and b says whether one before it does
 module _ (f : ℕ → Triple) {i k once many one two : ℕ} {b : Bool} (w : Counted (tab i 0 f) once many) (child : k ≡ f i .child) (test : b ≡ holds once k) (e : one ≡ union once (2 ^ k)) where

@@ -97,7 +97,14 @@ fn triple_ok(nodes: u32, triples: &[u32], i: usize) -> bool
     if i == 0 {
         return true;
     }
-    precedes(triples[at - 3], triples[at - 2], triples[at - 1], parent, child, edge)
+    precedes(
+        triples[at - 3],
+        triples[at - 2],
+        triples[at - 1],
+        parent,
+        child,
+        edge,
+    )
 }
 
 // The first triple that is wrong.

@@ -62,9 +62,14 @@ pub fn dying(
     ensures answer { λ r. ⌜ dyingOf r ≡ resultOf (dyingReply (given nodes live (now (triples .entry))) (given «next_nodes» «next_live» (now («next_triples» .entry))) (length (now (out .entry)))) ⌝ }
     ensures written { λ r. ⌜ now (out .exit) ≡ left (dyingReply (given nodes live (now (triples .entry))) (given «next_nodes» «next_live» (now («next_triples» .entry))) (length (now (out .entry)))) (now (out .entry)) ⌝ }
 {
-    if let Checked::Refused(r) =
-        check_graphs(nodes, live, triples, next_nodes, next_live, next_triples)
-    {
+    if let Checked::Refused(r) = check_graphs(
+        nodes,
+        live,
+        triples,
+        next_nodes,
+        next_live,
+        next_triples,
+    ) {
         return Dying::Refused(r);
     }
     if out.len() < nodes as usize {

@@ -68,7 +68,7 @@ module _ (code : List Bytecode) (sound : Sound code) (n m : ℕ) (goes marks ls 
     upper = λ b h. omega (arith, cut .size, block-start b h .inside);
     places = λ b h. let s = block-start b h in omega (arith, cut .size, block-upper (getD ls b 0) s, upper-lt code (getD ls b 0) (s .inside));
     next = λ b h. let s = block-start b h in
-    record { each = λ x i. omega (arith, cut .size, succs-within code sound (upperOf code (getD ls b 0)) (upper-lt code (getD ls b 0) (s .inside)) .each x (subst (λ (l : List ℕ). List·Memᴰ x l) (block-next (getD ls b 0) s) i)) };
+        record { each = λ x i. omega (arith, cut .size, succs-within code sound (upperOf code (getD ls b 0)) (upper-lt code (getD ls b 0) (s .inside)) .each x (subst (λ (l : List ℕ). List·Memᴰ x l) (block-next (getD ls b 0) s) i)) };
   }
 
   cut-takers : gather (takers goes uppers) (take m ls) ≡ gather (λ l. successors code (upperOf code l) ++ (l ∷ [])) (lowers code)

@@ -37,7 +37,14 @@ fn give(o: usize, key: &mut [u16], order: &mut [u16], c: usize) -> usize
 }
 
 // Keys for the block from l to u: its successors first, then the block.
-fn give_block(goes: &[u16], l: usize, u: usize, key: &mut [u16], order: &mut [u16], c: usize) -> usize
+fn give_block(
+    goes: &[u16],
+    l: usize,
+    u: usize,
+    key: &mut [u16],
+    order: &mut [u16],
+    c: usize,
+) -> usize
     requires { ⌜ Keys (now key) (now order) c × Near (length (now key)) (now goes) l u × (2 * u + 1 < length (now goes)) × (length (now key) ≤ length (now order)) × (length (now key) < 65534) ⌝ }
     ensures { λ r. ⌜ Gives (succsIn (now (goes .entry)) u ++ (l ∷ [])) (now (key .entry)) (now (order .entry)) c (now (key .exit)) (now (order .exit)) r ⌝ }
 {

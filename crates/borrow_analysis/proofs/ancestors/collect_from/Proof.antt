@@ -40,8 +40,7 @@ collect-ancestors-requires : tie.Need-collect-ancestors-requires Inv-loop μ-loo
 collect-ancestors-requires c κs =
     let l = c .before .before .before .before .loop in
     let pre = c .before .before .before .before .before .before .before .before .pre in
-    let wide : c .before .before .before .before .before .before .before .before .args .depth ≤ length (l .out) = omega (arith, l .inv .going .long, l .inv .going .wide) in
-    (
+    let wide : c .before .before .before .before .before .before .before .before .args .depth ≤ length (l .out) = omega (arith, l .inv .going .long, l .inv .going .wide) in (
       inside-wider _ (pre .1) (pre .0),
       inside-wider _ wide (pre .0),
       going-room (l .inv .going),

@@ -55,8 +55,8 @@ loop-again : tie.Need-loop-again Inv-loop μ-loop
 loop-again c = (
   omega arith,
   ⊎-elim (λ w. counted-more _ (c .before .before .before .before .before .loop .inv .1) (c .before .before .before .child-at .ensures .0) (c .before .before .has .ensures) (c .insert2 .ensures) (w .0 .taken) (ap mask (w .2) ∙ w .1 .ensures))
-  (λ w. counted-new _ (c .before .before .before .before .before .loop .inv .1) (c .before .before .before .child-at .ensures .0) (c .before .before .has .ensures) (c .insert2 .ensures) (w .0 .left) (ap mask (w .1)))
-  (c .before .if1 .came),
+      (λ w. counted-new _ (c .before .before .before .before .before .loop .inv .1) (c .before .before .before .child-at .ensures .0) (c .before .before .has .ensures) (c .insert2 .ensures) (w .0 .left) (ap mask (w .1)))
+      (c .before .if1 .came),
 )
 
 returns : tie.Need-returns Inv-loop μ-loop

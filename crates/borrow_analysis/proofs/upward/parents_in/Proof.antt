@@ -48,8 +48,8 @@ loop-again : tie.Need-loop-again Inv-loop μ-loop
 loop-again c = (
   omega arith,
   ⊎-elim (λ w. growing-more _ _ _ (c .before .before .before .loop-test .taken) (c .before .before .before .before .loop .inv .1) (c .before .before .child-at .ensures .0) (c .before .has .ensures) (w .0 .taken) (w .1 .ensures .0) (ap mask (w .3) ∙ w .2 .ensures))
-  (λ w. growing-same _ _ _ (c .before .before .before .loop-test .taken) (c .before .before .before .before .loop .inv .1) (c .before .before .child-at .ensures .0) (c .before .has .ensures) (w .0 .left) (ap mask (w .1)))
-  (c .if1 .came),
+      (λ w. growing-same _ _ _ (c .before .before .before .loop-test .taken) (c .before .before .before .before .loop .inv .1) (c .before .before .child-at .ensures .0) (c .before .has .ensures) (w .0 .left) (ap mask (w .1)))
+      (c .if1 .came),
 )
 
 returns : tie.Need-returns Inv-loop μ-loop

@@ -45,7 +45,7 @@ unfolding blocksOf
 counted code xs r e is = e ∙ ap length is
 
 returns : tie.Need-returns
-returns c = 
+returns c =
     let size = given-size (c .before .before .before .before .before .before .before .before .before .before .before .before .before .before .before .before .before .before .before .before .before .before .before .pre .0) in
     let v = c .before .before .before .before .before .before .before .before .before .before .before .before .before .before .visit-all .ensures in
     let l = c .before .before .list-lowers .ensures in

@@ -48,7 +48,7 @@ shared-slice-read-second : tie.Need-shared-slice-read-second
 shared-slice-read-second c = search needs
 
 give-requires-3 : tie.Need-give-requires-3
-give-requires-3 c κs = 
+give-requires-3 c κs =
     let k = c .before .before .before .before .before .before .before .before .give2 .kept .1 .0 in
     let b = c .before .before .before .before .before .before .before .before .give2 .kept .1 .1 .0 in
     (c .before .before .before .before .before .before .before .before .give2 .ensures .keys, omega (arith, k, c .before .before .before .before .before .before .before .before .before .before .before .before .before .before .before .before .before .pre .1 .self), omega (arith, k, b), omega (arith, k))
@@ -66,13 +66,13 @@ wide-requires-2 : tie.Need-wide-requires-2
 wide-requires-2 c κs = search needs
 
 give-requires-4 : tie.Need-give-requires-4
-give-requires-4 c κs = 
+give-requires-4 c κs =
     let k = c .before .before .before .before .before .before .before .before .before .give2 .kept .1 .0 in
     let b = c .before .before .before .before .before .before .before .before .before .give2 .kept .1 .1 .0 in
     (c .before .before .before .before .before .before .before .before .before .give2 .ensures .keys, omega (arith, k, c .before .before .wide2 .ensures, c .before .before .before .before .before .before .before .before .before .before .before .before .before .before .before .before .before .before .pre .1 .second (c .before .before .before .before .before .before .before .before .before .before .before .before .before .if1 .left) (c .before .before .before .if2 .left)), omega (arith, k, b), omega (arith, k))
 
 give-requires-5 : tie.Need-give-requires-5
-give-requires-5 c κs = 
+give-requires-5 c κs =
     let k = c .before .before .before .before .before .before .give4 .kept .1 .0 ∙ c .before .before .before .before .before .before .before .before .before .before .before .before .before .before .before .before .give2 .kept .1 .0 in
     let b = c .before .before .before .before .before .before .give4 .kept .1 .1 .0 ∙ c .before .before .before .before .before .before .before .before .before .before .before .before .before .before .before .before .give2 .kept .1 .1 .0 in
     (c .before .before .before .before .before .before .give4 .ensures .keys, omega (arith, k, c .before .before .before .before .before .before .before .before .before .before .before .before .before .before .before .before .before .before .before .before .before .before .before .before .before .pre .1 .self), omega (arith, k, b), omega (arith, k))
