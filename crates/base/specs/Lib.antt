@@ -8,5 +8,6 @@ pub mod JoinLaws
 pub mod PartLaws
 pub mod CopyLaws
 pub mod WriteLaws
+pub mod PutLaws
 pub mod ByteLaws
 pub mod ReplyLaws

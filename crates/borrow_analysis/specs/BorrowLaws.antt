@@ -12,12 +12,8 @@ use Rattle.dataflow_domains.specs.Mask.{bit, holds, union, Sub}
 use Rattle.dataflow_domains.specs.MaskLaws.{bit-lt, bit-union, bit-empty, bit-self, bit-other, holds-true, holds-false, true-holds, sub-refl, sub-trans, sub-antisymm, sub-union-l, sub-union-r, sub-full, sub-le, sub-at, union-lt, ones-mono, ones-same}
 use Rattle.borrow_analysis.specs.Graph.{Triple, Graph}
 use Rattle.borrow_analysis.specs.Borrows.{parentsIn, upward, above, isInUse}
+use Rattle.borrow_analysis.specs.Meaning.{Descends, same, down, Reaches}
 use Rattle.base.specs.ListLaws.{by-test, by-eq}
-
--- n is in m, or is the parent, by one of the triples, of a node that reaches m
-pub data Reaches (ts : List Triple) (m : ℕ) : ℕ → Type 0 where
-  here : {n : ℕ} → bit m n ≡ 1 → Reaches ts m n
-  up : (t : Triple) → List·Memᴰ t ts → Reaches ts m (t .child) → Reaches ts m (t .parent)
 
 -- ---- one edge
 
@@ -64,18 +60,20 @@ parents-from (u ∷ us) m n b = go (λ r. parents-from us m n r) (ℕ-discrete (
 
 -- ---- what is above reaches
 
+-- one triple further down
+further : {ts : List Triple} {n : ℕ} (t : Triple) → List·Memᴰ t ts → {m : ℕ} → Descends ts n m → m ≡ t .parent → Descends ts n (t .child)
+further {ts} t i (same {n = n}) e = subst (λ (x : ℕ). Descends ts x (t .child)) (sym e) (down t i same)
+further t i (down u j p) e = down u j (further t i p e)
+
 pub above-reaches : (k : ℕ) (ts : List Triple) (m n : ℕ) → bit (upward k ts m) n ≡ 1 → Reaches ts m n
 unfolding upward
-above-reaches zero ts m n b = here b
+above-reaches zero ts m n b = record { node = n; path = same; has = b }
 above-reaches (suc k) ts m n b = back (above-reaches k ts (parentsIn ts m) n b)
   where
-    step : (x : ℕ) → (bit m x ≡ 1) ⊎ ((t : Triple) × List·Memᴰ t ts × (x ≡ t .parent) × (bit m (t .child) ≡ 1)) → Reaches ts m x
-    step x (inl h) = here h
-    step x (inr r) = subst (λ (y : ℕ). Reaches ts m y) (sym (r .2)) (up (r .0) (r .1) (here (r .3)))
-
-    back : {x : ℕ} → Reaches ts (parentsIn ts m) x → Reaches ts m x
-    back (here {n = x} h) = step x (parents-from ts m x h)
-    back (up t i r) = up t i (back r)
+    back : Reaches ts (parentsIn ts m) n → Reaches ts m n
+    back r =
+        ⊎-elim (λ h. record { node = r .node; path = r .path; has = h })
+        (λ q. record { node = q .0 .child; path = further (q .0) (q .1) (r .path) (q .2); has = q .3 }) (parents-from ts m (r .node) (r .has))
 
 -- ---- what reaches is above, once nothing is added any more
 
@@ -121,9 +119,11 @@ module _ (ts : List Triple) (c : ℕ) (inside : (t : Triple) → List·Memᴰ t 
   upward-has (suc k) m = sub-trans (parents-has ts m) (upward-has k (parentsIn ts m))
 
   pub reaches-above : (m : ℕ) → m < 2 ^ c → {n : ℕ} → Reaches ts m n → bit (upward c ts m) n ≡ 1
-  reaches-above m b (here {n = n} h) = sub-at (upward-has c m) n h
-  reaches-above m b (up t i r) =
-      ap (λ (x : ℕ). bit x (t .parent)) (sym (fixed m b)) ∙ parents-in ts (upward c ts m) t i (reaches-above m b r)
+  reaches-above m b r = climb (r .path) (r .has)
+    where
+      climb : {n x : ℕ} → Descends ts n x → bit m x ≡ 1 → bit (upward c ts m) n ≡ 1
+      climb (same {n = n}) h = sub-at (upward-has c m) n h
+      climb (down t i p) h = ap (λ (x : ℕ). bit x (t .parent)) (sym (fixed m b)) ∙ parents-in ts (upward c ts m) t i (climb p h)
 
 -- ---- in use: the node or a descendant of it is live
 

@@ -1,5 +1,6 @@
 pub mod Graph
 pub mod Borrows
+pub mod Meaning
 pub mod BorrowLaws
 pub mod Answers
 pub mod GraphLaws
@@ -8,3 +9,5 @@ pub mod UpwardLaws
 pub mod AcceptedLaws
 pub mod AncestorLaws
 pub mod VisitLaws
+pub mod WalkLaws
+pub mod MeaningLaws

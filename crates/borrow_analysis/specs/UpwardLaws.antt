@@ -11,10 +11,11 @@ use native.Mathlib.Omega.{arith}
 use borrow.Author.Tests.{lt-ltb, le-ltb, eq-eqb, ne-eqb, ltb-true, ltb-false}
 use lib.Dec.{eqb, ltb}
 use lib.ListN.{getD, length}
+use lib.Pow.{pow-lt, pow-pos}
 use Rattle.base.specs.Lists.{tab}
 use Rattle.base.specs.ListLaws.{by-test, by-eq}
 use Rattle.dataflow_domains.specs.Mask.{bit, holds, union, Sub}
-use Rattle.dataflow_domains.specs.MaskLaws.{ext, bit-union, bit-empty, bit-self, union-none, sub-refl, sub-trans, sub-union-l, sub-union-r, sub-antisymm, union-least, union-of-sub, holds-union, holds-single, holds-same, holds-true, holds-false, true-holds, false-holds, bit-lt, bit-other}
+use Rattle.dataflow_domains.specs.MaskLaws.{ext, bit-union, bit-empty, bit-self, union-none, sub-refl, sub-trans, sub-union-l, sub-union-r, sub-antisymm, union-least, union-of-sub, union-lt, holds-union, holds-single, holds-same, holds-true, holds-false, true-holds, false-holds, bit-lt, bit-other}
 use Rattle.borrow_analysis.specs.Graph.{Triple}
 use Rattle.borrow_analysis.specs.Borrows.{parentsIn, upward, incoming, manyIn}
 use Rattle.borrow_analysis.specs.BorrowLaws.{parents-has}
@@ -197,14 +198,20 @@ lone-other : (b : Bool) (k j : ℕ) → (j ≡ k → ⊥) → holds (cond b (2 ^
 lone-other true k j g = false-holds (2 ^ k) j (bit-other k j (λ e. g (sym e)))
 lone-other false k j g = false-holds 0 j (bit-empty j)
 
-many-out : (n k j : ℕ) (ts : List Triple) → (k ≤ j → j < k + n → ⊥) → holds (manyIn n k ts) j ≡ false
+pub many-out : (n k j : ℕ) (ts : List Triple) → (k ≤ j → j < k + n → ⊥) → holds (manyIn n k ts) j ≡ false
 unfolding manyIn
 many-out zero k j ts h = false-holds 0 j (bit-empty j)
 many-out (suc n) k j ts h =
     holds-union (cond (ltb 1 (incoming ts k)) (2 ^ k) 0) (manyIn n (suc k) ts) j
     ∙ ap₂ _||_ (lone-other (ltb 1 (incoming ts k)) k j (λ e. h (omega arith) (omega arith))) (many-out n (suc k) j ts (λ l g. h (omega arith) (omega arith)))
 
-many-bits : (n k j : ℕ) (ts : List Triple) → k ≤ j → j < k + n → holds (manyIn n k ts) j ≡ ltb 1 (incoming ts j)
+pub many-lt : (n k c : ℕ) (ts : List Triple) → k + n ≤ c → manyIn n k ts < 2 ^ c
+unfolding manyIn
+many-lt zero k c ts h = pow-pos c
+many-lt (suc n) k c ts h =
+    union-lt c _ _ (by-test (λ b. cond b (2 ^ k) 0 < 2 ^ c) (ltb 1 (incoming ts k)) (λ e. pow-lt {i = k} {j = c} (omega arith)) (λ e. pow-pos c)) (many-lt n (suc k) c ts (omega arith))
+
+pub many-bits : (n k j : ℕ) (ts : List Triple) → k ≤ j → j < k + n → holds (manyIn n k ts) j ≡ ltb 1 (incoming ts j)
 unfolding manyIn
 many-bits zero k j ts l h = absurd (omega arith)
 many-bits (suc n) k j ts l h =

@@ -73,8 +73,8 @@ loop-again c =
     let i = c .before .before .before .before .before .before .before .before .before .before .before .before .loop .inv in
     let a = c .before .before .before .before .before .before .before .before .before .before .before .before .before .before .before .before .before .before .args in (
       search needs,
-      g .kept .1 .1 .1 .0 ∙ i .1,
-      g .kept .1 .1 .1 .1 .0 ∙ i .2,
+      g .kept .1 .1 .1 .1 .0 ∙ i .1,
+      g .kept .1 .1 .1 .1 .1 .0 ∙ i .2,
       keys-more (a .goes .now) (a .uppers .now) (a .lowers .now) (c .before .before .before .before .before .before .before .before .before .before .before .before .loop .b) (c .before .before .before .before .before .before .before .before .before .wide .result) (c .before .before .before .before .before .before .before .wide2 .result) (omega (arith, c .before .before .before .before .before .before .before .before .before .before .before .before .before .before .before .before .before .before .pre .0 .blocks)) (c .before .before .before .before .before .before .before .before .before .wide .ensures) (c .before .before .before .before .before .before .before .wide2 .ensures) (i .3) (g .ensures),
     )
 
