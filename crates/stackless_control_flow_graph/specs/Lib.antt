@@ -10,6 +10,7 @@ pub mod MoreLists
 pub mod OffsetLaws
 pub mod KeyLaws
 pub mod FlowLaws
+pub mod GraphLaws
 pub mod RowLaws
 pub mod CallLaws
 pub mod Sorting
