@@ -22,7 +22,7 @@ use Rattle.sheet.specs.CheckLaws.{code-sound}
 use Rattle.stackless_control_flow_graph.specs.Blocks.{lowers, blocksOf, upperOf, keyed, keyOf, succKeys, row, flowTable, flowReply}
 use Rattle.stackless_control_flow_graph.specs.BlockLaws.{upper-lt}
 use Rattle.stackless_control_flow_graph.specs.Arrays.{Cut, Gives, takers, Ready, Numbered, rowIn, Has, Given}
-use Rattle.stackless_control_flow_graph.specs.MoreLists.{below-few}
+use Rattle.base.specs.GrowLaws.{below-few}
 use Rattle.stackless_control_flow_graph.specs.GivenLaws.{accepted-shaped, accepted-few, accepted-at, accepted-has}
 use Rattle.stackless_control_flow_graph.specs.FlowLaws.{in-lowers, lowers-distinct, block-start, block-upper, cut-ready, cut-numbered, cut-rows}
 use Rattle.stackless_control_flow_graph.specs.RowLaws.{row-length}

@@ -14,7 +14,7 @@ use Rattle.base.specs.Lists.{has, place, firsts, gather}
 use Rattle.base.specs.ListLaws.{by-test, by-eq, has-in, in-has, in-firsts, firsts-distinct, Distinct}
 use Rattle.stackless_control_flow_graph.specs.Blocks.{keyOf}
 use Rattle.stackless_control_flow_graph.specs.Arrays.{noOffset, pairOf, succsIn, Within, keyIn, Keys, Gives, Near, takers, Ready}
-use Rattle.stackless_control_flow_graph.specs.MoreLists.{has-append, place-front, place-end, firsts-append, firsts-old, firsts-new, below-few, gather-more}
+use Rattle.base.specs.GrowLaws.{has-append, place-front, place-end, firsts-append, firsts-old, firsts-new, below-few, gather-more}
 
 -- ---- `keyIn`
 

@@ -6,7 +6,6 @@ pub mod Arrays
 pub mod NextLaws
 pub mod StartLaws
 pub mod GivenLaws
-pub mod MoreLists
 pub mod OffsetLaws
 pub mod KeyLaws
 pub mod FlowLaws
