@@ -1,15 +1,15 @@
 -- The call flow on an accepted sheet. Assumes nothing.
-use mathlib.Core.Path.{_≡_, refl, sym, ap, ap₂, _∙_, subst}
-use mathlib.Core.Bool.{Bool, true, false, cond}
+use mathlib.Core.Path.{_≡_, sym, ap, _∙_}
+use mathlib.Core.Bool.{cond}
 use mathlib.Core.List.{List, [], _∷_, _++_, map}
-use Prim.Native.Nat.{ℕ, _+_, _*_, _<_, _≤_}
+use Prim.Native.Nat.{ℕ, _*_, _<_, _≤_}
 use native.Mathlib.Omega.{arith}
 use lib.ListN.{getD, length, take, drop, replicate, length-append}
 use lib.Seq.{length-take-le}
 use Rattle.base.specs.Sizes.{maxInstructions}
 use Rattle.base.specs.Bytes.{u16At}
 use Rattle.base.specs.Lists.{gather}
-use Rattle.base.specs.Refusals.{Reply, No, Done, Accepted, Refused, Result, resultOf, left}
+use Rattle.base.specs.Refusals.{Reply, No, Done, Accepted, Refused, resultOf, left}
 use Rattle.base.specs.ReplyLaws.{reply-refused, reply-short, reply-done}
 use Rattle.base.specs.PartLaws.{gather-length}
 use Rattle.stackless_bytecode.specs.declared.Bytecode.{Bytecode}
@@ -21,11 +21,10 @@ use Rattle.sheet.specs.Checks.{checkSheet}
 use Rattle.sheet.specs.CheckLaws.{code-sound}
 use Rattle.stackless_control_flow_graph.specs.Blocks.{lowers, blocksOf, upperOf, keyed, keyOf, succKeys, row, flowTable, flowReply}
 use Rattle.stackless_control_flow_graph.specs.BlockLaws.{upper-lt}
-use Rattle.stackless_control_flow_graph.specs.Arrays.{Cut, Gives, takers, Ready, Numbered, rowIn, Has, Given}
+use Rattle.stackless_control_flow_graph.specs.Arrays.{Cut, Gives, takers, Ready, rowIn, Has, Given}
 use Rattle.base.specs.GrowLaws.{below-few}
 use Rattle.stackless_control_flow_graph.specs.GivenLaws.{accepted-shaped, accepted-few, accepted-at, accepted-has}
 use Rattle.stackless_control_flow_graph.specs.FlowLaws.{in-lowers, lowers-distinct, block-start, block-upper, cut-ready, cut-numbered, cut-rows}
-use Rattle.stackless_control_flow_graph.specs.RowLaws.{row-length}
 
 -- no more blocks than instructions
 pub blocks-few : (code : List Bytecode) → blocksOf code ≤ length code

@@ -1,7 +1,7 @@
 -- What holds of the blocks and the keys of every code that the checks let through. Assumes nothing.
-use mathlib.Core.Path.{_≡_, refl, sym, ap, _∙_, subst}
+use mathlib.Core.Path.{_≡_, refl, sym, ap, _∙_}
 use mathlib.Core.Logic.{inl, inr}
-use mathlib.Core.Bool.{Bool, true, false, _||_, true≢false}
+use mathlib.Core.Bool.{Bool, true, false, _||_}
 use mathlib.Core.List.{List, List·Memᴰ}
 use Prim.Native.Nat.{ℕ, zero, suc, _+_, _-_, _≤_, _<_}
 use native.Mathlib.Omega.{arith}
@@ -13,7 +13,7 @@ use Rattle.stackless_bytecode.specs.Kinds.{nop, at, isBranch, branchDests}
 use Rattle.stackless_bytecode.specs.Successors.{labelOffset, successors}
 use Rattle.stackless_bytecode.specs.SuccessorLaws.{Sound}
 use Rattle.stackless_control_flow_graph.specs.Blocks.{targets, starts, lowers, blocksOf, lowerOf, upperOf, keyed, keyOf}
-use Rattle.stackless_control_flow_graph.specs.BlockLaws.{Last, Start, succs-start, target-starts, upper-le, upper-lt, upper-last, upper-next, upper-stop, lower-start, lower-next, lower-starts, lower-le, upper-lower, keyed-in, in-keyed, keyed-distinct}
+use Rattle.stackless_control_flow_graph.specs.BlockLaws.{Last, Start, succs-start, target-starts, upper-le, upper-lt, upper-last, upper-stop, lower-start, lower-next, lower-starts, lower-le, upper-lower, keyed-in, in-keyed, keyed-distinct}
 use Rattle.stackless_control_flow_graph.specs.FlowLaws.{lowers-in, keys-blocks}
 
 module _ (code : List Bytecode) where

@@ -1,17 +1,12 @@
 -- `forward::flow` meets its contract: the refusal of the checks, or else the table. Assumes nothing.
-use Rattle.sheet.proofs.check.check_into.Reads as check-into-reads
-use Rattle.sheet.proofs.reader.u16_at.Reads as u16-at-reads
 use Rattle.sheet.specs.Checks.{answerOf}
 use Rattle.sheet.specs.Valid.{accepted-valid}
-use Rattle.stackless_control_flow_graph.proofs.forward.flow.Lts as lts
-use Rattle.stackless_control_flow_graph.proofs.forward.flow.Reads as reads
 use Rattle.stackless_control_flow_graph.proofs.forward.flow.Statement.{statement}
 use Rattle.stackless_control_flow_graph.proofs.forward.flow.Tie as tie
-use Rattle.stackless_control_flow_graph.proofs.forward.table_of.Reads as table-of-reads
 use Rattle.stackless_control_flow_graph.specs.CallLaws.{flow-refused, no-result, no-left, into-given}
 use borrow.Author.Needs.{needs}
 use lib.ListN.{length}
-use mathlib.Core.Path.{_≡_, refl, sym, ap, _∙_}
+use mathlib.Core.Path.{sym, ap, _∙_}
 use native.Mathlib.Omega.{arith}
 
 slice-aggregate-check-into : tie.Need-slice-aggregate-check-into
@@ -27,7 +22,7 @@ enum-told : tie.Need-enum-told
 enum-told c = search needs
 
 u16-at-requires : tie.Need-u16-at-requires
-u16-at-requires c κs = 
+u16-at-requires c κs =
     let v = accepted-valid (c .before .before .before .before .before .before .before .args .sheet .now) (sym (c .before .before .before .check-into .ensures .0) ∙ ap answerOf (c .enum-told .given .1)) in
     omega (arith, v .size)
 
@@ -38,12 +33,12 @@ slice-aggregate-table-of : tie.Need-slice-aggregate-table-of
 slice-aggregate-table-of c = search needs
 
 table-of-requires : tie.Need-table-of-requires
-table-of-requires c κs = 
+table-of-requires c κs =
     let yes = ap answerOf (c .before .before .before .enum-told .given .1) in
     into-given _ _ _ (sym (c .before .before .before .before .before .before .check-into .ensures .0) ∙ yes) (c .before .before .u16-at .ensures) (c .before .before .before .before .before .before .check-into .ensures .1 yes) (c .before .before .before .before .before .before .check-into .kept .1 .0)
 
 returns : tie.Need-returns
-returns c = 
+returns c =
     let e = flow-refused (c .before .before .before .before .before .before .before .before .args .sheet .now) (length (c .before .before .before .before .before .before .before .before .args .table .now)) _ _ (sym (c .before .before .before .before .check-into .ensures .0) ∙ ap answerOf (c .before .f .given .1)) in
     (no-result _ _ _ e, no-left _ _ _ _ e)
 

@@ -1,23 +1,17 @@
 -- `forward::table_of` meets its contract. Assumes nothing.
 use borrow.Author.Tests.{ltb-false, ltb-true}
-use Rattle.stackless_control_flow_graph.specs.Blocks.{blocksOf, flowReply, flowTable}
+use Rattle.stackless_control_flow_graph.specs.Blocks.{blocksOf, flowTable}
 use lib.ListN.{length}
 use Rattle.sheet.specs.Layout.{codeOf}
 use Prim.Native.Nat.{_*_, _≤_, ℕ}
 use Rattle.stackless_control_flow_graph.specs.GivenLaws.{accepted-few, given-shaped}
-use mathlib.Core.Path.{_≡_, refl, sym, ap, _∙_}
+use mathlib.Core.Path.{sym, ap, _∙_}
 use Rattle.base.specs.ListLaws.{copies-at}
 use Rattle.stackless_control_flow_graph.specs.CallLaws.{blocks-few, flow-short, flow-done, no-result, no-left, done-result, done-left, table-length}
 use native.Mathlib.Omega.{arith}
 use borrow.Author.Needs.{needs}
 use Rattle.stackless_control_flow_graph.proofs.forward.table_of.Statement.{statement}
 use Rattle.stackless_control_flow_graph.proofs.forward.table_of.Tie as tie
-use Rattle.stackless_control_flow_graph.proofs.forward.table_of.Reads as reads
-use Rattle.stackless_control_flow_graph.proofs.forward.table_of.Lts as lts
-use Rattle.stackless_control_flow_graph.proofs.blocks.cut.Reads as cut-reads
-use Rattle.stackless_control_flow_graph.proofs.forward.fill.Reads as fill-reads
-use Rattle.stackless_control_flow_graph.proofs.forward.lacks.Reads as lacks-reads
-use Rattle.stackless_control_flow_graph.proofs.forward.narrow.Reads as narrow-reads
 
 slice-aggregate-cut : tie.Need-slice-aggregate-cut
 slice-aggregate-cut c = search needs
@@ -49,7 +43,7 @@ lacks-requires : tie.Need-lacks-requires
 lacks-requires c κs = search needs
 
 returns : tie.Need-returns
-returns c = 
+returns c =
     let s = c .before .before .before .before .before .before .before .before .before .before .before .before .before .before .args .sheet .now in
     let h = ltb-true (length (c .before .before .before .before .before .before .before .before .before .before .before .before .before .before .args .table .now)) (6 * c .before .before .before .before .before .before .cut .result) (sym (c .before .lacks .ensures) ∙ c .if1 .taken) in
     let e = flow-short s (length (c .before .before .before .before .before .before .before .before .before .before .before .before .before .before .args .table .now)) (c .before .before .before .before .before .before .before .before .before .before .before .before .before .before .pre .accepted) (omega (arith, h, c .before .before .before .before .before .before .cut .ensures .0 .count)) in
@@ -74,7 +68,7 @@ same-length : tie.Need-same-length
 same-length c = search needs
 
 returns-2 : tie.Need-returns-2
-returns-2 c = 
+returns-2 c =
     let s = c .before .before .before .before .before .before .before .before .before .before .before .before .before .before .before .before .before .before .before .before .before .before .args .sheet .now in
     let m = c .before .before .before .before .before .before .before .before .before .before .before .before .before .before .cut .ensures .0 .count in
     let h = ltb-false (length (c .before .before .before .before .before .before .before .before .before .before .before .before .before .before .before .before .before .before .before .before .before .before .args .table .now)) (6 * c .before .before .before .before .before .before .before .before .before .before .before .before .before .before .cut .result) (sym (c .before .before .before .before .before .before .before .before .before .lacks .ensures) ∙ c .before .before .before .before .before .before .before .before .if1 .left) in
