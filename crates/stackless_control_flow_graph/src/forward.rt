@@ -4,7 +4,6 @@ ghost use mathlib.Core.List.{_++_};
 ghost use Prim.Native.Nat.{_*_, _≤_};
 ghost use lib.Dec.{ltb};
 ghost use lib.ListN.{length, drop};
-ghost use Rattle.base.specs.Sizes.{maxInstructions};
 ghost use Rattle.base.specs.Refusals.{Accepted, resultOf, left};
 ghost use Rattle.sheet.specs.Layout.{codeOf};
 ghost use Rattle.sheet.specs.Checks.{checkSheet};
@@ -16,6 +15,7 @@ use crate::blocks::cut;
 use crate::keys::give_all;
 use crate::rows::ROW;
 use crate::rows::write_rows;
+use crate::width::narrow;
 use base::MAX_INSTRUCTIONS;
 use base::Refusal;
 use sheet::Checked;
@@ -26,13 +26,6 @@ fn lacks(lent: usize, needed: usize) -> bool
     ensures { λ r. ⌜ r ≡ ltb lent needed ⌝ }
 {
     lent < needed
-}
-
-fn narrow(x: usize) -> u16
-    requires { ⌜ x ≤ maxInstructions ⌝ }
-    ensures { λ r. ⌜ r ≡ x ⌝ }
-{
-    x as u16
 }
 
 // The keys of the m blocks, and their rows to the front of the table.

@@ -1,6 +1,7 @@
 // The blocks of a sheet's code, their keys, and the flow table. Assumes nothing.
 use base::Refusal;
 
+mod width; // width.rt: 16-bit numbers as sizes, and back
 pub mod next; // next.rt: the successors of an offset
 pub mod starts; // starts.rt: the successors of every offset, and where blocks start
 pub mod blocks; // blocks.rt: the blocks by offset

@@ -62,7 +62,7 @@ fill-requires : tie.Need-fill-requires
 fill-requires c κs = (c .before .before .before .before .before .before .before .before .before .before .before .before .before .before .before .before .before .before .pre .accepted, c .before .before .before .before .before .before .before .before .before .before .cut .ensures .0, ltb-false _ _ (sym (c .before .before .before .before .before .lacks .ensures) ∙ c .before .before .before .before .if1 .left))
 
 narrow-requires : tie.Need-narrow-requires
-narrow-requires c κs = few (c .before .before .before .before .before .before .before .before .before .before .before .before .before)
+narrow-requires c κs = omega (arith, few (c .before .before .before .before .before .before .before .before .before .before .before .before .before))
 
 same-length : tie.Need-same-length
 same-length c = search needs
