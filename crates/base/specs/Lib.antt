@@ -11,3 +11,4 @@ pub mod WriteLaws
 pub mod PutLaws
 pub mod ByteLaws
 pub mod ReplyLaws
+pub mod GrowLaws

@@ -30,7 +30,7 @@ use Rattle.livevar_analysis.specs.Live.{execute}
 use Rattle.livevar_analysis.specs.LiveLaws.{transfer-lt}
 use Rattle.livevar_analysis.specs.Analysis.{outOf, analyzeFunction}
 use Rattle.livevar_analysis.specs.AnalysisLaws.{graph, narrow, bound-fits}
-use Rattle.livevar_analysis.specs.Term3.{keys-blocks}
+use Rattle.stackless_control_flow_graph.specs.FlowLaws.{keys-blocks}
 use Rattle.livevar_analysis.specs.Engine.{Analyzable, Tables, leads, given, stateAt, CanHand, HandedOn, CanStep, Begun, CanRun, Input, Solved}
 
 -- ---- how many keys there are, and how many are taken

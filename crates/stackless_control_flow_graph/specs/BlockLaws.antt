@@ -48,7 +48,7 @@ pub record Start (code : List Bytecode) (o : ℕ) : Type 0 where
   pub inside : o < length code
   pub starts : starts code o ≡ true
 
-target-starts : (code : List Bytecode) (o : ℕ) → List·Memᴰ o (targets code) → starts code o ≡ true
+pub target-starts : (code : List Bytecode) (o : ℕ) → List·Memᴰ o (targets code) → starts code o ≡ true
 unfolding starts
 target-starts code zero i = refl
 target-starts code (suc o) i =

@@ -1,28 +1,30 @@
 -- The call flow on an accepted sheet. Assumes nothing.
-use mathlib.Core.Path.{_≡_, refl, sym, ap, ap₂, _∙_, subst}
-use mathlib.Core.Bool.{Bool, true, false, cond}
+use mathlib.Core.Path.{_≡_, sym, ap, _∙_}
+use mathlib.Core.Bool.{cond}
 use mathlib.Core.List.{List, [], _∷_, _++_, map}
-use Prim.Native.Nat.{ℕ, _+_, _*_, _<_, _≤_}
+use Prim.Native.Nat.{ℕ, _*_, _<_, _≤_}
 use native.Mathlib.Omega.{arith}
-use lib.Dec.{ltb}
 use lib.ListN.{getD, length, take, drop, replicate, length-append}
 use lib.Seq.{length-take-le}
+use Rattle.base.specs.Sizes.{maxInstructions}
+use Rattle.base.specs.Bytes.{u16At}
 use Rattle.base.specs.Lists.{gather}
-use Rattle.base.specs.Refusals.{Reply, No, Done, Accepted, Answer, reply, Result, resultOf, left}
+use Rattle.base.specs.Refusals.{Reply, No, Done, Accepted, Refused, resultOf, left}
+use Rattle.base.specs.ReplyLaws.{reply-refused, reply-short, reply-done}
 use Rattle.base.specs.PartLaws.{gather-length}
 use Rattle.stackless_bytecode.specs.declared.Bytecode.{Bytecode}
 use Rattle.stackless_bytecode.specs.Kinds.{at, isExit}
 use Rattle.stackless_bytecode.specs.Successors.{successors}
-use Rattle.sheet.specs.Layout.{codeOf}
+use Rattle.stackless_bytecode.specs.Slots.{Resolved}
+use Rattle.sheet.specs.Layout.{countOf, codeOf}
 use Rattle.sheet.specs.Checks.{checkSheet}
 use Rattle.sheet.specs.CheckLaws.{code-sound}
 use Rattle.stackless_control_flow_graph.specs.Blocks.{lowers, blocksOf, upperOf, keyed, keyOf, succKeys, row, flowTable, flowReply}
 use Rattle.stackless_control_flow_graph.specs.BlockLaws.{upper-lt}
-use Rattle.stackless_control_flow_graph.specs.Arrays.{Cut, Gives, takers, Ready, Numbered, rowIn, Has}
-use Rattle.stackless_control_flow_graph.specs.MoreLists.{below-few}
-use Rattle.stackless_control_flow_graph.specs.GivenLaws.{accepted-few, accepted-at, accepted-has}
+use Rattle.stackless_control_flow_graph.specs.Arrays.{Cut, Gives, takers, Ready, rowIn, Has, Given}
+use Rattle.base.specs.GrowLaws.{below-few}
+use Rattle.stackless_control_flow_graph.specs.GivenLaws.{accepted-shaped, accepted-few, accepted-at, accepted-has}
 use Rattle.stackless_control_flow_graph.specs.FlowLaws.{in-lowers, lowers-distinct, block-start, block-upper, cut-ready, cut-numbered, cut-rows}
-use Rattle.stackless_control_flow_graph.specs.RowLaws.{row-length}
 
 -- no more blocks than instructions
 pub blocks-few : (code : List Bytecode) → blocksOf code ≤ length code
@@ -57,25 +59,28 @@ table-length code = gather-length 6 (row code (keyed code)) (λ l. omega (arith,
         unfold succKeys in length-take-le 3 (map (keyOf ks) (successors c u) ++ cond (isExit (at c u)) (1 ∷ []) [] ++ replicate 3 0)
         (omega (arith, length-append (map (keyOf ks) (successors c u) ++ cond (isExit (at c u)) (1 ∷ []) []) (replicate 3 0)))
 
-pub flow-short : (s : List ℕ) (lent needed : ℕ) → checkSheet s ≡ Accepted → needed ≡ 6 * blocksOf (codeOf s) → ltb lent needed ≡ true → flowReply s lent ≡ No 9 0
-unfolding flowReply reply
-flow-short s lent needed e n l =
-    ap (λ (a : Answer). reply a lent (6 * blocksOf (codeOf s)) (Done (blocksOf (codeOf s)) (flowTable (codeOf s)))) e
-    ∙ ap (λ (b : Bool). cond b (No 9 0) (Done (blocksOf (codeOf s)) (flowTable (codeOf s)))) (ap (ltb lent) (sym n) ∙ l)
+module _ (s : List ℕ) (lent : ℕ) where
+  pub flow-refused : (num place : ℕ) → checkSheet s ≡ Refused num place → flowReply s lent ≡ No num place
+  unfolding flowReply
+  flow-refused num place e = reply-refused lent (6 * blocksOf (codeOf s)) (Done (blocksOf (codeOf s)) (flowTable (codeOf s))) e
 
-pub flow-done : (s : List ℕ) (lent needed : ℕ) → checkSheet s ≡ Accepted → needed ≡ 6 * blocksOf (codeOf s) → ltb lent needed ≡ false → flowReply s lent ≡ Done (blocksOf (codeOf s)) (flowTable (codeOf s))
-unfolding flowReply reply
-flow-done s lent needed e n l =
-    ap (λ (a : Answer). reply a lent (6 * blocksOf (codeOf s)) (Done (blocksOf (codeOf s)) (flowTable (codeOf s)))) e
-    ∙ ap (λ (b : Bool). cond b (No 9 0) (Done (blocksOf (codeOf s)) (flowTable (codeOf s)))) (ap (ltb lent) (sym n) ∙ l)
+  pub flow-short : checkSheet s ≡ Accepted → lent < 6 * blocksOf (codeOf s) → flowReply s lent ≡ No 9 0
+  unfolding flowReply
+  flow-short e h = reply-short (Done (blocksOf (codeOf s)) (flowTable (codeOf s))) e h
 
-pub short-result : (p : Reply) → p ≡ No 9 0 → record { number = 9; value = 0 } ≡ resultOf p
+  pub flow-done : checkSheet s ≡ Accepted → 6 * blocksOf (codeOf s) ≤ lent → flowReply s lent ≡ Done (blocksOf (codeOf s)) (flowTable (codeOf s))
+  unfolding flowReply
+  flow-done e h = reply-done (Done (blocksOf (codeOf s)) (flowTable (codeOf s))) e h
+
+-- as result and output
+
+pub no-result : (p : Reply) (num place : ℕ) → p ≡ No num place → record { number = num; value = place } ≡ resultOf p
 unfolding resultOf
-short-result p e = sym (ap resultOf e)
+no-result p num place e = sym (ap resultOf e)
 
-pub short-left : (p : Reply) (d : List ℕ) → p ≡ No 9 0 → d ≡ left p d
+pub no-left : (p : Reply) (num place : ℕ) (d : List ℕ) → p ≡ No num place → d ≡ left p d
 unfolding left
-short-left p d e = sym (ap (λ (q : Reply). left q d) e)
+no-left p num place d e = sym (ap (λ (q : Reply). left q d) e)
 
 pub done-result : (p : Reply) (m b : ℕ) (xs : List ℕ) → m ≡ b → p ≡ Done b xs → record { number = 0; value = m } ≡ resultOf p
 unfolding resultOf
@@ -84,3 +89,9 @@ done-result p m b xs q e = ap (λ (x : ℕ). record { number = 0; value = x }) q
 pub done-left : (p : Reply) (d d′ xs : List ℕ) (m b : ℕ) → length xs ≡ 6 * m → p ≡ Done b xs → d′ ≡ xs ++ drop (6 * m) d → d′ ≡ left p d
 unfolding left
 done-left p d d′ xs m b size e q = q ∙ ap (λ (n : ℕ). xs ++ drop n d) (sym size) ∙ sym (ap (λ (r : Reply). left r d) e)
+
+-- ---- the checks accept, and have found where the labels stand
+
+pub into-given : (s : List ℕ) (n : ℕ) (targets : List ℕ) → checkSheet s ≡ Accepted → n ≡ u16At s 4 → Resolved (codeOf s) targets → length targets ≡ 2 * maxInstructions → Given s n targets
+unfolding countOf
+into-given s n targets e c r size = record { accepted = e; count = c; resolved = r; slots = omega (arith, accepted-shaped s e .few) }

@@ -1,5 +1,4 @@
 -- What the call flow answers, in the paper's numbers. Assumes nothing.
-use Prim.Native.Nat.{ℕ}
 use Rattle.base.specs.Refusals.{Result, numberOf, placeOf}
 use Rattle.stackless_control_flow_graph.specs.declared.Flow.{Flow}
 use Rattle.stackless_control_flow_graph.specs.declared.Flow.the-variants.{Blocks, Refused}

@@ -2,12 +2,12 @@
 use mathlib.Core.Path.{_≡_, refl, sym, ap, ap₂, _∙_, subst}
 use mathlib.Core.Bool.{Bool, true, cond}
 use mathlib.Core.List.{List, [], _∷_, _++_, map, List·Memᴰ}
-use Prim.Native.Nat.{ℕ, zero, suc, _+_, _*_, _≤_, _<_, zero-le}
+use Prim.Native.Nat.{ℕ, _+_, _≤_, _<_, zero-le}
 use native.Mathlib.Nat.{le-antisymm}
 use native.Mathlib.Omega.{arith}
 use lib.ListN.{getD, length, take, replicate, length-take}
 use lib.Seq.{getD-take}
-use Rattle.base.specs.Lists.{keep, gather, has, firsts}
+use Rattle.base.specs.Lists.{gather, has, firsts}
 use Rattle.base.specs.ListLaws.{by-test, keep-in, in-keep, getD-in, has-in, in-has, place-lt, Distinct}
 use Rattle.base.specs.JoinLaws.{by-lt}
 use Rattle.stackless_bytecode.specs.declared.Bytecode.{Bytecode}
@@ -17,8 +17,8 @@ use Rattle.stackless_bytecode.specs.SuccessorLaws.{Sound}
 use Rattle.sheet.specs.Layout.{instructionAt}
 use Rattle.stackless_control_flow_graph.specs.Blocks.{starts, lowers, blocksOf, upperOf, keyed, keyOf, succKeys, row, flowTable}
 use Rattle.stackless_control_flow_graph.specs.BlockLaws.{Start, succs-start, upper-lt, upper-last, keyed-in, in-keyed, keyed-distinct}
-use Rattle.stackless_control_flow_graph.specs.Arrays.{succsIn, Within, Cut, keyIn, Keys, Gives, takers, Ready, Numbered, succKeysIn, rowFrom, rowIn}
-use Rattle.stackless_control_flow_graph.specs.MoreLists.{gather-agree, map-agree, shorter, keep-distinct}
+use Rattle.stackless_control_flow_graph.specs.Arrays.{succsIn, Within, Cut, keyIn, Gives, takers, Ready, Numbered, succKeysIn, rowFrom, rowIn}
+use Rattle.base.specs.GrowLaws.{getD-past, gather-agree, map-agree, shorter, keep-distinct}
 use Rattle.stackless_control_flow_graph.specs.StartLaws.{succs-within}
 use Rattle.stackless_control_flow_graph.specs.KeyLaws.{key-none, key-some}
 
@@ -129,15 +129,10 @@ module _ (code : List Bytecode) (sound : Sound code) (m : ℕ) (goes ls uppers :
     keys-low o =
         by-lt o (length key) (λ h. by-test (λ b. has o (keyed code) ≡ b → getD key o 0 < r + 2) (has o (keyed code))
         (λ e q. omega (arith, numbered .each o h, key-some (keyed code) o e, key-below o e)) (λ e q. omega (arith, numbered .each o h, key-none (keyed code) o e)) refl)
-        (λ h. omega (arith, getD-past key o h))
+        (λ h. omega (arith, getD-past key o 0 h))
       where
         key-below : (x : ℕ) → has x (keyed code) ≡ true → keyOf (keyed code) x < r + 2
         key-below x e = unfold keyOf in omega (arith, place-lt x (keyed code) (has-in x (keyed code) e), numbered .count, keys-blocks code sound)
-
-        getD-past : (l : List ℕ) (i : ℕ) → length l ≤ i → getD l i 0 ≡ 0
-        getD-past [] i h = refl
-        getD-past (x ∷ xs) zero h = absurd (omega arith)
-        getD-past (x ∷ xs) (suc i) h = getD-past xs i (omega arith)
 
     -- ---- the rows
 

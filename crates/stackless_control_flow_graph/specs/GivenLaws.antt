@@ -22,7 +22,7 @@ use Rattle.sheet.specs.Layout.{countOf, recordBlocks, recordAt, decode, instruc
 use Rattle.sheet.specs.Checks.{recordOk, placeOk, checkSheet}
 use Rattle.sheet.specs.CheckLaws.{clear, code-sound}
 use Rattle.sheet.specs.Shaped.{Shaped, code-size, code-at, record-inside}
-use Rattle.sheet.specs.Valid.{Valid, accepted-valid}
+use Rattle.sheet.specs.Valid.{accepted-valid}
 use Rattle.stackless_control_flow_graph.specs.declared.Successors.{Successors}
 use Rattle.stackless_control_flow_graph.specs.Blocks.{starts}
 use Rattle.stackless_control_flow_graph.specs.Arrays.{listOf, succsBy, putTwo, markAll, Within, Going, Marking, Visits, Has, Given}

@@ -2,8 +2,8 @@
 use mathlib.Core.Path.{_≡_, refl, sym, ap, ap₂, _∙_, subst}
 use mathlib.Core.Logic.{_≢_, ⊎-elim}
 use mathlib.Core.Bool.{Bool, true, false, cond, _||_, true≢false}
-use mathlib.Core.List.{List, [], _∷_, _++_, append-nil, List·Memᴰ, List·Memᴰ·head, List·Memᴰ·tail, List·Memᴰ·not-nil, List·Memᴰ·cases-cons, List·Memᴰ·append-cases, List·Memᴰ·eq-of-singleton, Memᴰ·append-left, Memᴰ·append-right}
-use Prim.Native.Nat.{ℕ, zero, suc, _+_, _*_, _≤_, _<_}
+use mathlib.Core.List.{List, [], _∷_, _++_, List·Memᴰ, List·Memᴰ·head, List·Memᴰ·tail, List·Memᴰ·not-nil, List·Memᴰ·cases-cons, List·Memᴰ·append-cases, List·Memᴰ·eq-of-singleton}
+use Prim.Native.Nat.{ℕ, suc, _+_, _*_, _≤_, _<_}
 use native.Mathlib.Numerals.{add-one}
 use native.Mathlib.Omega.{arith}
 use borrow.Author.Tests.{eq-eqb, ne-eqb}
@@ -11,10 +11,10 @@ use lib.Dec.{eqb}
 use lib.ListN.{getD, set, length, take, length-set}
 use lib.Seq.{length-take-le, take-suc-set, getD-set-same, getD-set-other}
 use Rattle.base.specs.Lists.{has, place, firsts, gather}
-use Rattle.base.specs.ListLaws.{by-test, by-eq, has-in, in-has, in-firsts, firsts-distinct, Distinct}
+use Rattle.base.specs.ListLaws.{by-test, by-eq, in-has, firsts-distinct, Distinct}
 use Rattle.stackless_control_flow_graph.specs.Blocks.{keyOf}
-use Rattle.stackless_control_flow_graph.specs.Arrays.{noOffset, pairOf, succsIn, Within, keyIn, Keys, Gives, Near, takers, Ready}
-use Rattle.stackless_control_flow_graph.specs.MoreLists.{has-append, place-front, place-end, firsts-append, firsts-old, firsts-new, below-few, gather-more}
+use Rattle.stackless_control_flow_graph.specs.Arrays.{noOffset, pairOf, succsIn, Within, keyIn, Keys, Gives, Near, takers}
+use Rattle.base.specs.GrowLaws.{has-append, place-front, place-end, firsts-append, firsts-old, firsts-new, below-few, gather-more}
 
 -- ---- `keyIn`
 

@@ -6,10 +6,10 @@ pub mod Arrays
 pub mod NextLaws
 pub mod StartLaws
 pub mod GivenLaws
-pub mod MoreLists
 pub mod OffsetLaws
 pub mod KeyLaws
 pub mod FlowLaws
+pub mod GraphLaws
 pub mod RowLaws
 pub mod CallLaws
 pub mod Sorting

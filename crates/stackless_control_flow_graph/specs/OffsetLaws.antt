@@ -11,12 +11,12 @@ use lib.Dec.{eqb}
 use lib.ListN.{getD, set, length, take}
 use lib.Seq.{take-suc-set, getD-set-same, getD-set-other}
 use Rattle.base.specs.Lists.{keep}
-use Rattle.base.specs.ListLaws.{by-test, by-eq}
+use Rattle.base.specs.ListLaws.{by-eq}
 use Rattle.stackless_bytecode.specs.declared.Bytecode.{Bytecode}
-use Rattle.stackless_control_flow_graph.specs.Blocks.{starts, lowers, blocksOf, lowerOf, upperOf}
+use Rattle.stackless_control_flow_graph.specs.Blocks.{starts, lowers, lowerOf, upperOf}
 use Rattle.stackless_control_flow_graph.specs.BlockLaws.{Last, upper-stop, upper-next, lower-start, lower-next}
 use Rattle.stackless_control_flow_graph.specs.Arrays.{markedIn, Marked, Uppers, Heads, Listing}
-use Rattle.stackless_control_flow_graph.specs.MoreLists.{keep-snoc, keep-agree}
+use Rattle.base.specs.GrowLaws.{keep-snoc, keep-agree}
 
 -- ---- a list at the front of an array
 

@@ -14,7 +14,7 @@ use Rattle.sheet.specs.Layout.{instructionAt}
 use Rattle.stackless_control_flow_graph.specs.declared.Three.{Three}
 use Rattle.stackless_control_flow_graph.specs.Arrays.{noOffset, pairOf, succsIn, threeOf, succKeysIn, rowFrom, rowIn}
 use Rattle.stackless_control_flow_graph.specs.KeyLaws.{pair-none, pair-one, pair-two}
-use Rattle.stackless_control_flow_graph.specs.MoreLists.{pieces-kept, pieces-more}
+use Rattle.base.specs.GrowLaws.{pieces-kept, pieces-more}
 
 -- ---- three keys
 

@@ -1,17 +1,17 @@
 -- The pass over the instructions: successors into their places, and marks where blocks start. Assumes nothing.
 use mathlib.Core.Path.{_≡_, refl, sym, ap, ap₂, _∙_, subst}
-use mathlib.Core.Logic.{_⊎_, inl, inr, ⊎-elim, _≢_}
-use mathlib.Core.Bool.{Bool, true, false, cond, not, _||_, _&&_, true≢false}
-use mathlib.Core.List.{List, [], _∷_, _++_, map, List·Memᴰ, List·Memᴰ·head, List·Memᴰ·tail, List·Memᴰ·not-nil, List·Memᴰ·cases-cons, List·Memᴰ·eq-of-singleton}
+use mathlib.Core.Logic.{_⊎_, inl, inr, ⊎-elim}
+use mathlib.Core.Bool.{Bool, true, false, cond, _||_, true≢false}
+use mathlib.Core.List.{List, [], _∷_, _++_, map, List·Memᴰ, List·Memᴰ·head, List·Memᴰ·tail, List·Memᴰ·not-nil, List·Memᴰ·cases-cons}
 use Prim.Native.Nat.{ℕ, zero, suc, _+_, _*_, _/_, _%_, _-_, _≤_, _<_}
 use native.Mathlib.Omega.{arith}
 use native.Mathlib.Numerals.{add-one}
-use borrow.Author.Tests.{eq-eqb, ne-eqb, eqb-true, eqb-false}
+use borrow.Author.Tests.{eq-eqb, ne-eqb}
 use lib.Dec.{eqb}
 use lib.ListN.{getD, set, length, take, length-set}
 use lib.Seq.{take-nil, getD-set-same, getD-set-other}
 use Rattle.base.specs.Lists.{over, gather, has}
-use Rattle.base.specs.ListLaws.{by-test, by-eq, or-true, has-in, in-map, in-gather, in-getD, map-in}
+use Rattle.base.specs.ListLaws.{by-test, by-eq, or-true, has-in, in-map, in-gather, in-getD}
 use Rattle.stackless_bytecode.specs.declared.Bytecode.{Bytecode}
 use Rattle.stackless_bytecode.specs.Kinds.{nop, at, isExit, isFlagged, isJump, isBranch, fallsThrough, branchDests}
 use Rattle.stackless_bytecode.specs.Successors.{labelOffset, ascending, successors}
@@ -19,7 +19,7 @@ use Rattle.stackless_bytecode.specs.SuccessorLaws.{Sound, Next, in-succs, succs
 use Rattle.stackless_bytecode.specs.Slots.{noLabel, slotAt, Resolved}
 use Rattle.stackless_bytecode.specs.SlotLaws.{Below}
 use Rattle.stackless_control_flow_graph.specs.Blocks.{targets, starts}
-use Rattle.stackless_control_flow_graph.specs.BlockLaws.{Last, Start, succs-start}
+use Rattle.stackless_control_flow_graph.specs.BlockLaws.{Last, succs-start}
 use Rattle.stackless_control_flow_graph.specs.Arrays.{succsBy, noOffset, pairOf, succsIn, putTwo, markAll, Within, Going, Marked, Marking}
 
 -- ---- none, one or two by value

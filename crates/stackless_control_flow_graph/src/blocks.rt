@@ -1,21 +1,15 @@
 // The blocks by offset: the lower of each, and the lower and the upper of the block that an offset stands in. Assumes nothing.
 ghost use mathlib.Core.Path.{_≡_};
 ghost use mathlib.Core.Bool.{cond};
-ghost use mathlib.Core.List.{List, [], _∷_, _++_};
+ghost use mathlib.Core.List.{List, [], _∷_};
 ghost use Prim.Native.Nat.{ℕ, _+_, _*_, _≤_, _<_};
 ghost use lib.Dec.{eqb};
 ghost use lib.ListN.{length, getD, take};
 ghost use Rattle.stackless_bytecode.specs.declared.Bytecode.{Bytecode};
 ghost use Rattle.sheet.specs.Layout.{codeOf};
 ghost use Rattle.stackless_control_flow_graph.specs.Arrays.{markedIn, Marked, Uppers, Heads, Listing, Given, Cut};
-use super::starts::visit_all;
-
-fn narrow(x: usize) -> u16
-    requires { ⌜ x < 65536 ⌝ }
-    ensures { λ r. ⌜ r ≡ x ⌝ }
-{
-    x as u16
-}
+use crate::starts::visit_all;
+use crate::width::narrow;
 
 // Offset k behind the c lowers, where it is marked; how many there are then.
 fn list_lower(lowers: &mut [u16], c: usize, k: usize, mark: u8) -> usize

@@ -5,24 +5,15 @@ ghost use Prim.Native.Nat.{ℕ, _+_, _*_, _≤_, _<_};
 ghost use lib.ListN.{length, getD, take};
 ghost use Rattle.base.specs.Lists.{gather};
 ghost use Rattle.stackless_control_flow_graph.specs.Arrays.{succsIn, Keys, Gives, Near, takers, Ready};
+use crate::starts;
+use crate::width::narrow;
+use crate::width::wide;
+
 // Stands for no offset.
-const NO_OFFSET: usize = 65535;
+const NO_OFFSET: usize = starts::NO_OFFSET as usize;
 
 // The first key of a block: 0 and 1 are the dummy entrance and exit.
 pub const FIRST_KEY: usize = 2;
-
-fn wide(x: u16) -> usize
-    ensures { λ r. ⌜ r ≡ x ⌝ }
-{
-    x as usize
-}
-
-fn narrow(x: usize) -> u16
-    requires { ⌜ x < 65536 ⌝ }
-    ensures { λ r. ⌜ r ≡ x ⌝ }
-{
-    x as u16
-}
 
 // The next key to offset o, where it has none yet; how many offsets have keys then.
 fn give(c: usize, o: usize, key: &mut [u16], order: &mut [u16]) -> usize

@@ -6,8 +6,10 @@ ghost use Prim.Native.Nat.{ℕ, _+_, _*_, _≤_, _<_};
 ghost use lib.ListN.{length, getD, take, drop};
 ghost use Rattle.base.specs.Lists.{gather};
 ghost use Rattle.stackless_control_flow_graph.specs.Arrays.{noOffset, pairOf, Near, Ready, threeOf, succKeysIn, rowFrom, rowIn, Has};
-use super::Three;
-use super::starts::NO_OFFSET;
+use crate::Three;
+use crate::starts::NO_OFFSET;
+use crate::width::narrow;
+use crate::width::wide;
 use sheet::reader;
 
 // The numbers of a row.
@@ -16,26 +18,13 @@ pub const ROW: usize = 6;
 // The key of the dummy exit.
 const EXIT_KEY: u16 = 1;
 
-fn wide(x: u16) -> usize
-    ensures { λ r. ⌜ r ≡ x ⌝ }
-{
-    x as usize
-}
-
-fn narrow(x: usize) -> u16
-    requires { ⌜ x < 65536 ⌝ }
-    ensures { λ r. ⌜ r ≡ x ⌝ }
-{
-    x as u16
-}
-
 fn exit_key(exit: bool) -> u16
     ensures { λ r. ⌜ r ≡ cond exit 1 0 ⌝ }
 {
     if exit { EXIT_KEY } else { 0 }
 }
 
-fn three(first: u16, second: u16, third: u16) -> Three
+pub fn three(first: u16, second: u16, third: u16) -> Three
     ensures { λ r. ⌜ threeOf r ≡ first ∷ second ∷ third ∷ [] ⌝ }
 {
     Three {

@@ -5,25 +5,14 @@ ghost use Prim.Native.Nat.{ℕ, _+_, _*_, _≤_, _<_};
 ghost use lib.ListN.{length, getD};
 ghost use Rattle.sheet.specs.Layout.{codeOf};
 ghost use Rattle.stackless_control_flow_graph.specs.Arrays.{noOffset, listOf, putTwo, markAll, Within, Going, Marked, Visits, Given};
-use super::Successors;
-use super::next::by_kind;
+use crate::Successors;
+use crate::next::by_kind;
+use crate::width::narrow;
+use crate::width::wide;
 use sheet::reader;
 
 // Stands for no offset.
 pub const NO_OFFSET: u16 = 65535;
-
-fn wide(x: u16) -> usize
-    ensures { λ r. ⌜ r ≡ x ⌝ }
-{
-    x as usize
-}
-
-fn narrow(x: usize) -> u16
-    requires { ⌜ x < 65536 ⌝ }
-    ensures { λ r. ⌜ r ≡ x ⌝ }
-{
-    x as u16
-}
 
 fn first_of(e: Successors) -> u16
     ensures { λ r. ⌜ r ≡ getD (listOf e) 0 noOffset ⌝ }

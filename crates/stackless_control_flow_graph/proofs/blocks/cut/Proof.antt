@@ -13,11 +13,6 @@ use native.Mathlib.Omega.{arith}
 use borrow.Author.Needs.{needs}
 use Rattle.stackless_control_flow_graph.proofs.blocks.cut.Statement.{statement}
 use Rattle.stackless_control_flow_graph.proofs.blocks.cut.Tie as tie
-use Rattle.stackless_control_flow_graph.proofs.blocks.cut.Reads as reads
-use Rattle.stackless_control_flow_graph.proofs.blocks.cut.Lts as lts
-use Rattle.stackless_control_flow_graph.proofs.blocks.find_uppers.Reads as find-uppers-reads
-use Rattle.stackless_control_flow_graph.proofs.blocks.list_lowers.Reads as list-lowers-reads
-use Rattle.stackless_control_flow_graph.proofs.starts.visit_all.Reads as visit-all-reads
 
 visit-all-requires : tie.Need-visit-all-requires
 visit-all-requires c κs = search needs

@@ -5,15 +5,11 @@ use Rattle.stackless_bytecode.specs.declared.Bytecode.{Bytecode}
 use lib.ListN.{length, length-set, getD}
 use Prim.Native.Nat.{_≤_, _-_}
 use mathlib.Core.List.{List}
-use mathlib.Core.Path.{_≡_, refl, _∙_}
+use mathlib.Core.Path.{_≡_, refl}
 use borrow.Author.Needs.{needs}
 use native.Mathlib.Omega.{arith}
 use Rattle.stackless_control_flow_graph.proofs.blocks.find_heads.Statement.{statement}
 use Rattle.stackless_control_flow_graph.proofs.blocks.find_heads.Tie as tie
-use Rattle.stackless_control_flow_graph.proofs.blocks.find_heads.Reads as reads
-use Rattle.stackless_control_flow_graph.proofs.blocks.find_heads.Lts as lts
-use Rattle.stackless_control_flow_graph.proofs.blocks.narrow.Reads as narrow-reads
-use Rattle.stackless_control_flow_graph.proofs.blocks.pick.Reads as pick-reads
 
 abbrev Inv-loop : tie.InvT-loop
 Inv-loop marks n heads₀ head₀ k₀ heads head k = (k ≤ n) × Between 0 n head × (length heads ≡ length heads₀) × ((code : List Bytecode) → length code ≡ n → Marked code marks → Heading code heads k head)

@@ -5,15 +5,11 @@ use Rattle.stackless_bytecode.specs.declared.Bytecode.{Bytecode}
 use lib.ListN.{length, length-set, getD}
 use Prim.Native.Nat.{_≤_, _-_}
 use mathlib.Core.List.{List}
-use mathlib.Core.Path.{_≡_, refl, _∙_}
+use mathlib.Core.Path.{_≡_, refl}
 use borrow.Author.Needs.{needs}
 use native.Mathlib.Omega.{arith}
 use Rattle.stackless_control_flow_graph.proofs.blocks.find_uppers.Statement.{statement}
 use Rattle.stackless_control_flow_graph.proofs.blocks.find_uppers.Tie as tie
-use Rattle.stackless_control_flow_graph.proofs.blocks.find_uppers.Reads as reads
-use Rattle.stackless_control_flow_graph.proofs.blocks.find_uppers.Lts as lts
-use Rattle.stackless_control_flow_graph.proofs.blocks.narrow.Reads as narrow-reads
-use Rattle.stackless_control_flow_graph.proofs.blocks.pick.Reads as pick-reads
 
 abbrev Inv-loop : tie.InvT-loop
 Inv-loop marks n uppers₀ end₀ k₀ uppers end k = (k ≤ n) × Between k n end × (length uppers ≡ length uppers₀) × ((code : List Bytecode) → length code ≡ n → Marked code marks → Upping code uppers k end)

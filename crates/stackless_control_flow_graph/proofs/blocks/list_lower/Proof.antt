@@ -1,13 +1,9 @@
 -- `blocks::list_lower` meets its contract. Assumes nothing.
 use Rattle.stackless_control_flow_graph.specs.OffsetLaws.{listing-none, listing-one}
 use borrow.Author.Tests.{ne-eqb}
-use native.Mathlib.Omega.{arith}
 use borrow.Author.Needs.{needs}
 use Rattle.stackless_control_flow_graph.proofs.blocks.list_lower.Statement.{statement}
 use Rattle.stackless_control_flow_graph.proofs.blocks.list_lower.Tie as tie
-use Rattle.stackless_control_flow_graph.proofs.blocks.list_lower.Reads as reads
-use Rattle.stackless_control_flow_graph.proofs.blocks.list_lower.Lts as lts
-use Rattle.stackless_control_flow_graph.proofs.blocks.narrow.Reads as narrow-reads
 
 narrow-requires : tie.Need-narrow-requires
 narrow-requires c κs = search needs

@@ -2,16 +2,13 @@
 use Rattle.stackless_control_flow_graph.specs.OffsetLaws.{marked-none, marked-more, listing-most}
 use Rattle.stackless_control_flow_graph.specs.Arrays.{markedIn}
 use lib.Seq.{length-take-le}
-use lib.ListN.{length, take, length-take}
+use lib.ListN.{length, take}
 use Prim.Native.Nat.{_≤_, _-_}
 use mathlib.Core.Path.{_≡_, refl, sym, ap, _∙_}
 use borrow.Author.Needs.{needs}
 use native.Mathlib.Omega.{arith}
 use Rattle.stackless_control_flow_graph.proofs.blocks.list_lowers.Statement.{statement}
 use Rattle.stackless_control_flow_graph.proofs.blocks.list_lowers.Tie as tie
-use Rattle.stackless_control_flow_graph.proofs.blocks.list_lowers.Reads as reads
-use Rattle.stackless_control_flow_graph.proofs.blocks.list_lowers.Lts as lts
-use Rattle.stackless_control_flow_graph.proofs.blocks.list_lower.Reads as list-lower-reads
 
 abbrev Inv-loop : tie.InvT-loop
 Inv-loop marks n lowers₀ c₀ k₀ lowers c k = (k ≤ n) × (length lowers ≡ length lowers₀) × (c ≤ k) × (take c lowers ≡ markedIn marks k)

@@ -1,11 +1,7 @@
 -- `blocks::pick` meets its contract. Assumes nothing.
 use borrow.Author.Tests.{ne-eqb}
-use borrow.Author.Needs.{needs}
-use native.Mathlib.Omega.{arith}
 use Rattle.stackless_control_flow_graph.proofs.blocks.pick.Statement.{statement}
 use Rattle.stackless_control_flow_graph.proofs.blocks.pick.Tie as tie
-use Rattle.stackless_control_flow_graph.proofs.blocks.pick.Reads as reads
-use Rattle.stackless_control_flow_graph.proofs.blocks.pick.Lts as lts
 
 returns : tie.Need-returns
 returns c = rw (c .if1 .taken)

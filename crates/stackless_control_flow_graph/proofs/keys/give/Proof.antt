@@ -4,9 +4,6 @@ use native.Mathlib.Omega.{arith}
 use borrow.Author.Needs.{needs}
 use Rattle.stackless_control_flow_graph.proofs.keys.give.Statement.{statement}
 use Rattle.stackless_control_flow_graph.proofs.keys.give.Tie as tie
-use Rattle.stackless_control_flow_graph.proofs.keys.give.Reads as reads
-use Rattle.stackless_control_flow_graph.proofs.keys.give.Lts as lts
-use Rattle.stackless_control_flow_graph.proofs.keys.narrow.Reads as narrow-reads
 
 mul-if1 : tie.Need-mul-if1
 mul-if1 c = search needs

@@ -1,6 +1,6 @@
 -- `keys::give_all` meets its contract: at each turn, the blocks passed have taken their keys. Assumes nothing.
 use mathlib.Core.Path.{_≡_, refl, _∙_, ap}
-use Prim.Native.Nat.{_≤_, _-_, _<_, ℕ}
+use Prim.Native.Nat.{_≤_, _-_, ℕ}
 use lib.ListN.{length, take, getD}
 use Rattle.base.specs.Lists.{gather}
 use Rattle.stackless_control_flow_graph.specs.KeyLaws.{keys-begin, keys-more, near}
@@ -9,10 +9,6 @@ use borrow.Author.Needs.{needs}
 use native.Mathlib.Omega.{arith}
 use Rattle.stackless_control_flow_graph.proofs.keys.give_all.Statement.{statement}
 use Rattle.stackless_control_flow_graph.proofs.keys.give_all.Tie as tie
-use Rattle.stackless_control_flow_graph.proofs.keys.give_all.Reads as reads
-use Rattle.stackless_control_flow_graph.proofs.keys.give_all.Lts as lts
-use Rattle.stackless_control_flow_graph.proofs.keys.give_block.Reads as give-block-reads
-use Rattle.stackless_control_flow_graph.proofs.keys.wide.Reads as wide-reads
 
 abbrev Inv-loop : tie.InvT-loop
 Inv-loop goes lowers m uppers key₀ order₀ c₀ b₀ key order c b = (b ≤ m) × (length key ≡ length key₀) × (length order ≡ length order₀) × Gives (gather (takers goes uppers) (take b lowers)) key₀ order₀ 0 key order c

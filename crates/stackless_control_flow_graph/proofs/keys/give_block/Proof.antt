@@ -5,10 +5,6 @@ use native.Mathlib.Omega.{arith}
 use borrow.Author.Needs.{needs}
 use Rattle.stackless_control_flow_graph.proofs.keys.give_block.Statement.{statement}
 use Rattle.stackless_control_flow_graph.proofs.keys.give_block.Tie as tie
-use Rattle.stackless_control_flow_graph.proofs.keys.give_block.Reads as reads
-use Rattle.stackless_control_flow_graph.proofs.keys.give_block.Lts as lts
-use Rattle.stackless_control_flow_graph.proofs.keys.give.Reads as give-reads
-use Rattle.stackless_control_flow_graph.proofs.keys.wide.Reads as wide-reads
 
 mul-at : tie.Need-mul-at
 mul-at c = search needs

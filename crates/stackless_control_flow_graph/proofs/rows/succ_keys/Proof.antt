@@ -5,11 +5,6 @@ use native.Mathlib.Omega.{arith}
 use borrow.Author.Needs.{needs}
 use Rattle.stackless_control_flow_graph.proofs.rows.succ_keys.Statement.{statement}
 use Rattle.stackless_control_flow_graph.proofs.rows.succ_keys.Tie as tie
-use Rattle.stackless_control_flow_graph.proofs.rows.succ_keys.Reads as reads
-use Rattle.stackless_control_flow_graph.proofs.rows.succ_keys.Lts as lts
-use Rattle.stackless_control_flow_graph.proofs.rows.exit_key.Reads as exit-key-reads
-use Rattle.stackless_control_flow_graph.proofs.rows.three.Reads as three-reads
-use Rattle.stackless_control_flow_graph.proofs.rows.wide.Reads as wide-reads
 
 exit-key-requires : tie.Need-exit-key-requires
 exit-key-requires c κs = search needs

@@ -5,12 +5,6 @@ use native.Mathlib.Omega.{arith}
 use borrow.Author.Needs.{needs}
 use Rattle.stackless_control_flow_graph.proofs.rows.write_row.Statement.{statement}
 use Rattle.stackless_control_flow_graph.proofs.rows.write_row.Tie as tie
-use Rattle.stackless_control_flow_graph.proofs.rows.write_row.Reads as reads
-use Rattle.stackless_control_flow_graph.proofs.rows.write_row.Lts as lts
-use Rattle.sheet.proofs.reader.instruction_at.Reads as instruction-at-reads
-use Rattle.stackless_bytecode.proofs.Bytecode.is_exit.Reads as is-exit-reads
-use Rattle.stackless_control_flow_graph.proofs.rows.narrow.Reads as narrow-reads
-use Rattle.stackless_control_flow_graph.proofs.rows.succ_keys.Reads as succ-keys-reads
 
 instruction-at-requires : tie.Need-instruction-at-requires
 instruction-at-requires c κs = search needs

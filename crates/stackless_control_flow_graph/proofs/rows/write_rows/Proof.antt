@@ -12,10 +12,6 @@ use borrow.Author.Needs.{needs}
 use native.Mathlib.Omega.{arith}
 use Rattle.stackless_control_flow_graph.proofs.rows.write_rows.Statement.{statement}
 use Rattle.stackless_control_flow_graph.proofs.rows.write_rows.Tie as tie
-use Rattle.stackless_control_flow_graph.proofs.rows.write_rows.Reads as reads
-use Rattle.stackless_control_flow_graph.proofs.rows.write_rows.Lts as lts
-use Rattle.stackless_control_flow_graph.proofs.rows.wide.Reads as wide-reads
-use Rattle.stackless_control_flow_graph.proofs.rows.write_row.Reads as write-row-reads
 
 abbrev Inv-loop : tie.InvT-loop
 Inv-loop sheet goes lowers m uppers key table₀ b₀ table b = (b ≤ m) × (table ≡ gather (rowIn sheet goes uppers key) (take b lowers) ++ drop (6 * b) table₀)

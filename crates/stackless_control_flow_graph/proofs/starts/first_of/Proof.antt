@@ -1,11 +1,8 @@
 -- `starts::first_of` meets its contract. Assumes nothing.
 use Rattle.stackless_control_flow_graph.specs.StartLaws.{first-is}
-use native.Mathlib.Omega.{arith}
 use borrow.Author.Needs.{needs}
 use Rattle.stackless_control_flow_graph.proofs.starts.first_of.Statement.{statement}
 use Rattle.stackless_control_flow_graph.proofs.starts.first_of.Tie as tie
-use Rattle.stackless_control_flow_graph.proofs.starts.first_of.Reads as reads
-use Rattle.stackless_control_flow_graph.proofs.starts.first_of.Lts as lts
 
 returns : tie.Need-returns
 returns c = search needs

@@ -7,9 +7,6 @@ use native.Mathlib.Omega.{arith}
 use borrow.Author.Needs.{needs}
 use Rattle.stackless_control_flow_graph.proofs.starts.mark.Statement.{statement}
 use Rattle.stackless_control_flow_graph.proofs.starts.mark.Tie as tie
-use Rattle.stackless_control_flow_graph.proofs.starts.mark.Reads as reads
-use Rattle.stackless_control_flow_graph.proofs.starts.mark.Lts as lts
-use Rattle.stackless_control_flow_graph.proofs.starts.wide.Reads as wide-reads
 
 slice-write-marks : tie.Need-slice-write-marks
 slice-write-marks c = c .before .pre .each _ (List·Memᴰ·head refl)

@@ -1,12 +1,7 @@
 -- `starts::put_two` meets its contract. Assumes nothing.
-use native.Mathlib.Omega.{arith}
 use borrow.Author.Needs.{needs}
 use Rattle.stackless_control_flow_graph.proofs.starts.put_two.Statement.{statement}
 use Rattle.stackless_control_flow_graph.proofs.starts.put_two.Tie as tie
-use Rattle.stackless_control_flow_graph.proofs.starts.put_two.Reads as reads
-use Rattle.stackless_control_flow_graph.proofs.starts.put_two.Lts as lts
-use Rattle.stackless_control_flow_graph.proofs.starts.first_of.Reads as first-of-reads
-use Rattle.stackless_control_flow_graph.proofs.starts.second_of.Reads as second-of-reads
 
 mul-at : tie.Need-mul-at
 mul-at c = search needs

@@ -1,11 +1,7 @@
 -- `starts::second_of` meets its contract. Assumes nothing.
 use Rattle.stackless_control_flow_graph.specs.StartLaws.{second-none, second-is}
-use borrow.Author.Needs.{needs}
-use native.Mathlib.Omega.{arith}
 use Rattle.stackless_control_flow_graph.proofs.starts.second_of.Statement.{statement}
 use Rattle.stackless_control_flow_graph.proofs.starts.second_of.Tie as tie
-use Rattle.stackless_control_flow_graph.proofs.starts.second_of.Reads as reads
-use Rattle.stackless_control_flow_graph.proofs.starts.second_of.Lts as lts
 
 returns : tie.Need-returns
 returns c = second-none _ _ _ _ (c .if1 .taken)

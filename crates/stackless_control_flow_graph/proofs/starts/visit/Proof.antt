@@ -5,21 +5,13 @@ use Rattle.sheet.specs.Layout.{codeOf}
 use Rattle.stackless_bytecode.specs.Successors.{successors}
 use Rattle.stackless_control_flow_graph.specs.Arrays.{listOf}
 use Rattle.stackless_bytecode.specs.SlotLaws.{Below}
-use mathlib.Core.Path.{_≡_, refl, sym, _∙_}
+use mathlib.Core.Path.{_≡_, sym, _∙_}
 use Rattle.sheet.specs.Shaped.{record-inside}
 use Rattle.stackless_control_flow_graph.specs.GivenLaws.{given-shaped, next-is, next-within, visit-quiet, visit-branch}
 use native.Mathlib.Omega.{arith}
 use borrow.Author.Needs.{needs}
 use Rattle.stackless_control_flow_graph.proofs.starts.visit.Statement.{statement}
 use Rattle.stackless_control_flow_graph.proofs.starts.visit.Tie as tie
-use Rattle.stackless_control_flow_graph.proofs.starts.visit.Reads as reads
-use Rattle.stackless_control_flow_graph.proofs.starts.visit.Lts as lts
-use Rattle.sheet.proofs.reader.instruction_at.Reads as instruction-at-reads
-use Rattle.stackless_bytecode.proofs.Bytecode.is_branch.Reads as is-branch-reads
-use Rattle.stackless_control_flow_graph.proofs.next.by_kind.Reads as by-kind-reads
-use Rattle.stackless_control_flow_graph.proofs.starts.mark.Reads as mark-reads
-use Rattle.stackless_control_flow_graph.proofs.starts.narrow.Reads as narrow-reads
-use Rattle.stackless_control_flow_graph.proofs.starts.put_two.Reads as put-two-reads
 
 instruction-at-requires : tie.Need-instruction-at-requires
 instruction-at-requires c κs = (record-inside (given-shaped (c .before .before .before .before .pre .0)) _ (search needs), omega (arith, given-shaped (c .before .before .before .before .pre .0) .few))

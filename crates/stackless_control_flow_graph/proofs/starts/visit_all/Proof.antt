@@ -1,5 +1,5 @@
 -- `starts::visit_all` meets its contract: at each turn, the instructions passed are visited. Assumes nothing.
-use mathlib.Core.Path.{_≡_, refl, sym, subst, _∙_}
+use mathlib.Core.Path.{_≡_, refl, _∙_}
 use Prim.Native.Nat.{_≤_, _-_}
 use lib.ListN.{length, length-set}
 use Rattle.sheet.specs.Layout.{codeOf}
@@ -10,9 +10,6 @@ use borrow.Author.Needs.{needs}
 use native.Mathlib.Omega.{arith}
 use Rattle.stackless_control_flow_graph.proofs.starts.visit_all.Statement.{statement}
 use Rattle.stackless_control_flow_graph.proofs.starts.visit_all.Tie as tie
-use Rattle.stackless_control_flow_graph.proofs.starts.visit_all.Reads as reads
-use Rattle.stackless_control_flow_graph.proofs.starts.visit_all.Lts as lts
-use Rattle.stackless_control_flow_graph.proofs.starts.visit.Reads as visit-reads
 
 abbrev Inv-loop : tie.InvT-loop
 Inv-loop sheet n targets goes₀ marks₀ k₀ goes marks k = (k ≤ n) × (length goes ≡ length goes₀) × (length marks ≡ length marks₀) × Going (codeOf sheet) k goes × Marking (codeOf sheet) k marks

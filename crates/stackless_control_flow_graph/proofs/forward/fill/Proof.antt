@@ -1,18 +1,14 @@
--- `fill` meets its contract. Assumes nothing.
+-- `forward::fill` meets its contract. Assumes nothing.
 use lib.ListN.{drop}
 use Prim.Native.Nat.{ℕ, _*_}
 use mathlib.Core.List.{List, _++_}
-use mathlib.Core.Path.{_≡_, refl, ap, _∙_}
+use mathlib.Core.Path.{refl, ap, _∙_}
 use Rattle.base.specs.ListLaws.{copies-at}
 use Rattle.stackless_control_flow_graph.specs.CallLaws.{fill-ready, fill-has, fill-table}
 use native.Mathlib.Omega.{arith}
 use borrow.Author.Needs.{needs}
-use Rattle.stackless_control_flow_graph.proofs.fill.Statement.{statement}
-use Rattle.stackless_control_flow_graph.proofs.fill.Tie as tie
-use Rattle.stackless_control_flow_graph.proofs.fill.Reads as reads
-use Rattle.stackless_control_flow_graph.proofs.fill.Lts as lts
-use Rattle.stackless_control_flow_graph.proofs.keys.give_all.Reads as give-all-reads
-use Rattle.stackless_control_flow_graph.proofs.rows.write_rows.Reads as write-rows-reads
+use Rattle.stackless_control_flow_graph.proofs.forward.fill.Statement.{statement}
+use Rattle.stackless_control_flow_graph.proofs.forward.fill.Tie as tie
 
 slice-aggregate-give-all : tie.Need-slice-aggregate-give-all
 slice-aggregate-give-all c = search needs

@@ -1,23 +1,17 @@
--- `table_of` meets its contract. Assumes nothing.
-use borrow.Author.Tests.{ltb-false}
-use Rattle.stackless_control_flow_graph.specs.Blocks.{blocksOf, flowReply, flowTable}
+-- `forward::table_of` meets its contract. Assumes nothing.
+use borrow.Author.Tests.{ltb-false, ltb-true}
+use Rattle.stackless_control_flow_graph.specs.Blocks.{blocksOf, flowTable}
 use lib.ListN.{length}
 use Rattle.sheet.specs.Layout.{codeOf}
 use Prim.Native.Nat.{_*_, _≤_, ℕ}
 use Rattle.stackless_control_flow_graph.specs.GivenLaws.{accepted-few, given-shaped}
-use mathlib.Core.Path.{_≡_, refl, sym, ap, _∙_}
+use mathlib.Core.Path.{sym, ap, _∙_}
 use Rattle.base.specs.ListLaws.{copies-at}
-use Rattle.stackless_control_flow_graph.specs.CallLaws.{blocks-few, flow-short, flow-done, short-result, short-left, done-result, done-left, table-length}
+use Rattle.stackless_control_flow_graph.specs.CallLaws.{blocks-few, flow-short, flow-done, no-result, no-left, done-result, done-left, table-length}
 use native.Mathlib.Omega.{arith}
 use borrow.Author.Needs.{needs}
-use Rattle.stackless_control_flow_graph.proofs.table_of.Statement.{statement}
-use Rattle.stackless_control_flow_graph.proofs.table_of.Tie as tie
-use Rattle.stackless_control_flow_graph.proofs.table_of.Reads as reads
-use Rattle.stackless_control_flow_graph.proofs.table_of.Lts as lts
-use Rattle.stackless_control_flow_graph.proofs.blocks.cut.Reads as cut-reads
-use Rattle.stackless_control_flow_graph.proofs.fill.Reads as fill-reads
-use Rattle.stackless_control_flow_graph.proofs.lacks.Reads as lacks-reads
-use Rattle.stackless_control_flow_graph.proofs.narrow.Reads as narrow-reads
+use Rattle.stackless_control_flow_graph.proofs.forward.table_of.Statement.{statement}
+use Rattle.stackless_control_flow_graph.proofs.forward.table_of.Tie as tie
 
 slice-aggregate-cut : tie.Need-slice-aggregate-cut
 slice-aggregate-cut c = search needs
@@ -51,8 +45,9 @@ lacks-requires c κs = search needs
 returns : tie.Need-returns
 returns c =
     let s = c .before .before .before .before .before .before .before .before .before .before .before .before .before .before .args .sheet .now in
-    let e = flow-short s (length (c .before .before .before .before .before .before .before .before .before .before .before .before .before .before .args .table .now)) (6 * c .before .before .before .before .before .before .cut .result) (c .before .before .before .before .before .before .before .before .before .before .before .before .before .before .pre .accepted) (ap (λ (x : ℕ). 6 * x) (c .before .before .before .before .before .before .cut .ensures .0 .count)) (sym (c .before .lacks .ensures) ∙ c .if1 .taken) in
-    (short-result _ e, short-left _ _ e)
+    let h = ltb-true (length (c .before .before .before .before .before .before .before .before .before .before .before .before .before .before .args .table .now)) (6 * c .before .before .before .before .before .before .cut .result) (sym (c .before .lacks .ensures) ∙ c .if1 .taken) in
+    let e = flow-short s (length (c .before .before .before .before .before .before .before .before .before .before .before .before .before .before .args .table .now)) (c .before .before .before .before .before .before .before .before .before .before .before .before .before .before .pre .accepted) (omega (arith, h, c .before .before .before .before .before .before .cut .ensures .0 .count)) in
+    (no-result _ 9 0 e, no-left _ 9 0 _ e)
 
 slice-aggregate-fill : tie.Need-slice-aggregate-fill
 slice-aggregate-fill c = search needs
@@ -67,7 +62,7 @@ fill-requires : tie.Need-fill-requires
 fill-requires c κs = (c .before .before .before .before .before .before .before .before .before .before .before .before .before .before .before .before .before .before .pre .accepted, c .before .before .before .before .before .before .before .before .before .before .cut .ensures .0, ltb-false _ _ (sym (c .before .before .before .before .before .lacks .ensures) ∙ c .before .before .before .before .if1 .left))
 
 narrow-requires : tie.Need-narrow-requires
-narrow-requires c κs = few (c .before .before .before .before .before .before .before .before .before .before .before .before .before)
+narrow-requires c κs = omega (arith, few (c .before .before .before .before .before .before .before .before .before .before .before .before .before))
 
 same-length : tie.Need-same-length
 same-length c = search needs
@@ -76,7 +71,8 @@ returns-2 : tie.Need-returns-2
 returns-2 c =
     let s = c .before .before .before .before .before .before .before .before .before .before .before .before .before .before .before .before .before .before .before .before .before .before .args .sheet .now in
     let m = c .before .before .before .before .before .before .before .before .before .before .before .before .before .before .cut .ensures .0 .count in
-    let e = flow-done s (length (c .before .before .before .before .before .before .before .before .before .before .before .before .before .before .before .before .before .before .before .before .before .before .args .table .now)) (6 * c .before .before .before .before .before .before .before .before .before .before .before .before .before .before .cut .result) (c .before .before .before .before .before .before .before .before .before .before .before .before .before .before .before .before .before .before .before .before .before .before .pre .accepted) (ap (λ (x : ℕ). 6 * x) m) (sym (c .before .before .before .before .before .before .before .before .before .lacks .ensures) ∙ c .before .before .before .before .before .before .before .before .if1 .left) in
+    let h = ltb-false (length (c .before .before .before .before .before .before .before .before .before .before .before .before .before .before .before .before .before .before .before .before .before .before .args .table .now)) (6 * c .before .before .before .before .before .before .before .before .before .before .before .before .before .before .cut .result) (sym (c .before .before .before .before .before .before .before .before .before .lacks .ensures) ∙ c .before .before .before .before .before .before .before .before .if1 .left) in
+    let e = flow-done s (length (c .before .before .before .before .before .before .before .before .before .before .before .before .before .before .before .before .before .before .before .before .before .before .args .table .now)) (c .before .before .before .before .before .before .before .before .before .before .before .before .before .before .before .before .before .before .before .before .before .before .pre .accepted) (omega (arith, h, m)) in
     (done-result _ _ (blocksOf (codeOf s)) (flowTable (codeOf s)) (c .narrow .ensures ∙ m) e, done-left _ _ _ (flowTable (codeOf s)) (c .before .before .before .before .before .before .before .before .before .before .before .before .before .before .cut .result) (blocksOf (codeOf s)) (table-length (codeOf s) ∙ ap (λ (x : ℕ). 6 * x) (sym m)) e (c .before .before .before .fill .ensures))
 
 pub table-of-spec : {M : Type 1} → statement M

@@ -1,0 +1,65 @@
+-- `forward::flow` meets its contract: the refusal of the checks, or else the table. Assumes nothing.
+use Rattle.sheet.specs.Checks.{answerOf}
+use Rattle.sheet.specs.Valid.{accepted-valid}
+use Rattle.stackless_control_flow_graph.proofs.forward.flow.Statement.{statement}
+use Rattle.stackless_control_flow_graph.proofs.forward.flow.Tie as tie
+use Rattle.stackless_control_flow_graph.specs.CallLaws.{flow-refused, no-result, no-left, into-given}
+use borrow.Author.Needs.{needs}
+use lib.ListN.{length}
+use mathlib.Core.Path.{sym, ap, _∙_}
+use native.Mathlib.Omega.{arith}
+
+slice-aggregate-check-into : tie.Need-slice-aggregate-check-into
+slice-aggregate-check-into c = search needs
+
+check-into-requires : tie.Need-check-into-requires
+check-into-requires c κs = search needs
+
+enum-known-f : tie.Need-enum-known-f
+enum-known-f c = search needs
+
+enum-told : tie.Need-enum-told
+enum-told c = search needs
+
+u16-at-requires : tie.Need-u16-at-requires
+u16-at-requires c κs =
+    let v = accepted-valid (c .before .before .before .before .before .before .before .args .sheet .now) (sym (c .before .before .before .check-into .ensures .0) ∙ ap answerOf (c .enum-told .given .1)) in
+    omega (arith, v .size)
+
+cast-n : tie.Need-cast-n
+cast-n c = search needs
+
+slice-aggregate-table-of : tie.Need-slice-aggregate-table-of
+slice-aggregate-table-of c = search needs
+
+table-of-requires : tie.Need-table-of-requires
+table-of-requires c κs =
+    let yes = ap answerOf (c .before .before .before .enum-told .given .1) in
+    into-given _ _ _ (sym (c .before .before .before .before .before .before .check-into .ensures .0) ∙ yes) (c .before .before .u16-at .ensures) (c .before .before .before .before .before .before .check-into .ensures .1 yes) (c .before .before .before .before .before .before .check-into .kept .1 .0)
+
+returns : tie.Need-returns
+returns c =
+    let e = flow-refused (c .before .before .before .before .before .before .before .before .args .sheet .now) (length (c .before .before .before .before .before .before .before .before .args .table .now)) _ _ (sym (c .before .before .before .before .check-into .ensures .0) ∙ ap answerOf (c .before .f .given .1)) in
+    (no-result _ _ _ e, no-left _ _ _ _ e)
+
+same-length : tie.Need-same-length
+same-length c = search needs
+
+returns-2 : tie.Need-returns-2
+returns-2 c = search needs
+
+pub flow-spec : {M : Type 1} → statement M
+flow-spec =
+    tie.close
+    (tie.spec
+    slice-aggregate-check-into
+    check-into-requires
+    enum-known-f
+    enum-told
+    u16-at-requires
+    cast-n
+    slice-aggregate-table-of
+    table-of-requires
+    returns
+    same-length
+    returns-2)
