@@ -10,3 +10,5 @@ pub mod CopyLaws
 pub mod WriteLaws
 pub mod ByteLaws
 pub mod ReplyLaws
+pub mod TabLaws
+pub mod RefusalLaws

@@ -1,7 +1,7 @@
 -- The lines of livelist one after the other, how long they are, and that they are read back from what live wrote. Assumes nothing.
 use mathlib.Core.Path.{_≡_, refl, sym, ap, ap₂, _∙_}
 use mathlib.Core.List.{List, [], _∷_, _++_, append-nil, append-assoc}
-use Prim.Native.Nat.{ℕ, zero, suc, _+_, _*_, _≤_, _<_}
+use Prim.Native.Nat.{ℕ, suc, _+_, _*_, _≤_, _<_}
 use native.Mathlib.Nat.{zero-add, add-zero, add-suc, suc-add}
 use native.Mathlib.Numerals.{add-one}
 use native.Mathlib.Omega.{arith}
@@ -9,6 +9,7 @@ use lib.ListN.{length, length-append}
 use Rattle.base.specs.Sizes.{setBytes, maxInstructions}
 use Rattle.base.specs.Lists.{tab}
 use Rattle.base.specs.ListLaws.{length-tab}
+use Rattle.base.specs.TabLaws.{tab-snoc}
 use Rattle.base.specs.Bytes.{part}
 use Rattle.livevar_analysis.specs.Analysis.{LiveVarInfo}
 use Rattle.listing.specs.Lines.{hex, decimal, line, lines, takenWord}
@@ -16,12 +17,6 @@ use Rattle.listing.specs.Text.{infoIn, infosOf, textOf, lineBytes}
 use Rattle.listing.specs.NumberLaws.{decimal-short, hex-length}
 
 -- ---- one line more
-
-tab-snoc : {A : Type 0} (n k : ℕ) (f : ℕ → A) → tab (suc n) k f ≡ tab n k f ++ (f (k + n) ∷ [])
-unfolding tab
-tab-snoc zero k f = ap (λ (x : ℕ). f x ∷ []) (sym (add-zero k))
-tab-snoc {A} (suc n) k f =
-    ap (λ (l : List A). f k ∷ l) (tab-snoc n (suc k) f ∙ ap (λ (x : ℕ). tab n (suc k) f ++ (f x ∷ [])) (suc-add k n ∙ sym (add-suc k n)))
 
 lines-snoc : (k : ℕ) (is : List LiveVarInfo) (i : LiveVarInfo) → lines k (is ++ (i ∷ [])) ≡ lines k is ++ line (k + length is) i
 unfolding lines

@@ -1,17 +1,13 @@
 -- `borrow_analysis::ancestors::collect_ancestors` meets its contract; its depth falls with each call. Assumes nothing.
 use borrow.Author.Needs.{needs}
 use native.Mathlib.Omega.{arith}
-use mathlib.Core.Path.{_≡_, refl, sym, ap, _∙_, subst}
+use mathlib.Core.Path.{_≡_, sym, ap, _∙_, subst}
 use mathlib.Core.Logic.{⊎-elim}
-use Prim.Native.Nat.{ℕ, _-_, _/_, _≤_, _<_}
-use native.Mathlib.Nat.{le-refl, sub-zero}
+use Prim.Native.Nat.{ℕ, _-_, _≤_, _<_}
+use native.Mathlib.Nat.{le-refl}
 use lib.ListN.{length, length-set}
 use Rattle.base.specs.ListLaws.{or-false}
-use Rattle.borrow_analysis.specs.AcceptedLaws.{inside-wider}
-use Rattle.base.specs.Lists.{tab, over}
 use Rattle.dataflow_domains.specs.Sets.{mask}
-use Rattle.borrow_analysis.specs.Graph.{tripleAt, triplesOf}
-use Rattle.borrow_analysis.specs.Borrows.{getParents, collectAncestors}
 use Rattle.borrow_analysis.specs.Parts.{Inside}
 use Rattle.borrow_analysis.specs.VisitLaws.{Round, round-none, round-more, round-same, round-all, going-room, came-same, listed-room, room-more}
 use Rattle.borrow_analysis.specs.AncestorLaws.{collect-zero, collect-skip}
@@ -22,8 +18,8 @@ use Rattle.borrow_analysis.proofs.ancestors.collect_ancestors.Kinds as 
 use Rattle.borrow_analysis.proofs.ancestors.+collect_ancestors.Lts-collect_ancestors as collect-ancestors-lts
 use Rattle.borrow_analysis.proofs.ancestors.list.Reads as list-reads
 use Rattle.borrow_analysis.proofs.ancestors.passed_over.Reads as passed-over-reads
-use Rattle.borrow_analysis.proofs.upward.child_at.Reads as child-at-reads
-use Rattle.borrow_analysis.proofs.upward.parent_at.Reads as parent-at-reads
+use Rattle.borrow_analysis.proofs.triples.child_at.Reads as child-at-reads
+use Rattle.borrow_analysis.proofs.triples.parent_at.Reads as parent-at-reads
 use Rattle.borrow_analysis.proofs.ancestors.+collect_ancestors.{statement}
 use Rattle.borrow_analysis.proofs.ancestors.+collect_ancestors.Tie.{close}
 
@@ -123,7 +119,7 @@ collect-ancestors-list-requires : (t : ℕ) → collect-ancestors-lts.Need-list-
     collect-ancestors.Post
     collect-ancestors-Inv-loop
     collect-ancestors-μ-loop
-collect-ancestors-list-requires t c κs = 
+collect-ancestors-list-requires t c κs =
     let pre = c .before .before .before .before .before .before .pre .1 in (pre .3, room-more (c .before .before .before .before .before .before .args .node) (pre .2) (pre .4) (or-false _ _ (sym (c .before .before .passed-over .ensures) ∙ c .before .if2 .left) .0))
 
 collect-ancestors-loop-holds : (t : ℕ) → collect-ancestors-lts.Need-loop-holds (
@@ -142,11 +138,10 @@ collect-ancestors-loop-holds : (t : ℕ) → collect-ancestors-lts.Need-loop-hol
     collect-ancestors.Post
     collect-ancestors-Inv-loop
     collect-ancestors-μ-loop
-collect-ancestors-loop-holds t c = 
+collect-ancestors-loop-holds t c =
     let a = c .before .before .before .before .before .before .before .before .before .args in
     let pre = c .before .before .before .before .before .before .before .before .before .pre .1 in
-    let r = c .before .before .list .ensures in
-    (
+    let r = c .before .before .list .ensures in (
       search needs,
       round-none _ _ _ _ _ _ _ (listed-room (a .out .now) _ (pre .2) (pre .4) (or-false _ _ (sym (c .before .before .before .before .before .passed-over .ensures) ∙ c .before .before .before .before .if2 .left) .0) (r .0) (r .1) (r .2)),
     )
@@ -223,13 +218,12 @@ collect-ancestors-collect-ancestors-requires :
     collect-ancestors.Post
     collect-ancestors-Inv-loop
     collect-ancestors-μ-loop
-collect-ancestors-collect-ancestors-requires t c κs = 
+collect-ancestors-collect-ancestors-requires t c κs =
     let a = c .before .before .before .before .before .before .before .before .before .before .before .before .before .before .before .args in
     let pre = c .before .before .before .before .before .before .before .before .before .before .before .before .before .before .before .pre .1 in
     let l = c .before .before .before .before .before .loop in
     let long : length (l .out) ≡ length (a .out .now) = l .inv .1 .going .long ∙ ap length (c .before .before .before .before .before .before .before .before .list .ensures .2) ∙ length-set (a .out .now) (a .seen .count) (a .node) in
-    let wide : Inside (length (l .out)) (a .triples .now) = subst (λ (n : ℕ). Inside n (a .triples .now)) (sym long) (pre .1) in
-    (
+    let wide : Inside (length (l .out)) (a .triples .now) = subst (λ (n : ℕ). Inside n (a .triples .now)) (sym long) (pre .1) in (
       omega (arith, c .before .before .before .before .before .before .before .before .before .before .before .before .before .before .before .pre .0, c .before .before .before .before .before .before .before .before .before .before .before .before .if1 .left),
       (pre .0, wide, going-room (l .inv .1 .going), c .before .parent-at .ensures .1, omega (arith, c .before .parent-at .ensures .0, wide .parents (l .i) (c .before .before .before .before .loop-test .taken))),
     )
@@ -286,15 +280,14 @@ collect-ancestors-loop-again : (t : ℕ) → collect-ancestors-lts.Need-loop-aga
     collect-ancestors.Post
     collect-ancestors-Inv-loop
     collect-ancestors-μ-loop
-collect-ancestors-loop-again t c = 
+collect-ancestors-loop-again t c =
     let a = c .before .before .before .before .before .before .before .before .before .before .before .before .before .args in
     let l = c .before .before .before .loop in
-    let wide : Inside (length (c .before .before .before .before .before .before .list .last .1 .1 .0)) (a .triples .now) = subst (λ (n : ℕ). Inside n (a .triples .now)) (sym (ap length (c .before .before .before .before .before .before .list .ensures .2) ∙ length-set (a .out .now) (a .seen .count) (a .node))) (c .before .before .before .before .before .before .before .before .before .before .before .before .before .pre .1 .1) in
-    (
+    let wide : Inside (length (c .before .before .before .before .before .before .list .last .1 .1 .0)) (a .triples .now) = subst (λ (n : ℕ). Inside n (a .triples .now)) (sym (ap length (c .before .before .before .before .before .before .list .ensures .2) ∙ length-set (a .out .now) (a .seen .count) (a .node))) (c .before .before .before .before .before .before .before .before .before .before .before .before .before .pre .1 .1) in (
       omega arith,
       ⊎-elim (λ w. rw (w .6, w .7) (round-more _ _ _ _ _ _ _ (l .inv .1) (c .before .before .loop-test .taken) (c .before .child-at .ensures .0) wide (w .0 .taken) (w .1 .ensures .0) (w .3 .ensures)))
-      (λ w. rw (w .1, w .2) (round-same _ _ _ _ _ _ _ (l .inv .1) (c .before .before .loop-test .taken) (c .before .child-at .ensures .0) (w .0 .left)))
-      (c .if3 .came),
+          (λ w. rw (w .1, w .2) (round-same _ _ _ _ _ _ _ (l .inv .1) (c .before .before .loop-test .taken) (c .before .child-at .ensures .0) (w .0 .left)))
+          (c .if3 .came),
     )
 
 collect-ancestors-same-length : (t : ℕ) → collect-ancestors-lts.Need-same-length (
@@ -313,7 +306,7 @@ collect-ancestors-same-length : (t : ℕ) → collect-ancestors-lts.Need-same-le
     collect-ancestors.Post
     collect-ancestors-Inv-loop
     collect-ancestors-μ-loop
-collect-ancestors-same-length t c = 
+collect-ancestors-same-length t c =
     let a = c .before .before .before .before .before .before .before .before .before .before .before .args in
     c .before .loop .inv .1 .going .long ∙ ap length (c .before .before .before .before .list .ensures .2) ∙ length-set (a .out .now) (a .seen .count) (a .node)
 
@@ -333,7 +326,7 @@ collect-ancestors-returns-3 : (t : ℕ) → collect-ancestors-lts.Need-returns-3
     collect-ancestors.Post
     collect-ancestors-Inv-loop
     collect-ancestors-μ-loop
-collect-ancestors-returns-3 t c = 
+collect-ancestors-returns-3 t c =
     let r = c .before .before .before .before .list .ensures in
     round-all _ _ _ _ _ _ _ (c .before .before .before .before .before .before .before .before .before .before .before .pre .1 .2) (c .before .before .before .before .before .before .before .before .before .before .before .pre .1 .4) (sym (c .before .before .before .before .before .before .before .passed-over .ensures) ∙ c .before .before .before .before .before .before .if2 .left) (r .0) (r .1) (r .2) (omega (arith, c .before .before .before .before .before .before .before .before .if1 .left)) (c .before .loop .inv .1) (c .loop-test .left)
 
