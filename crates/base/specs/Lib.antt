@@ -8,6 +8,7 @@ pub mod JoinLaws
 pub mod PartLaws
 pub mod CopyLaws
 pub mod WriteLaws
+pub mod PutLaws
 pub mod ByteLaws
 pub mod ReplyLaws
 pub mod TabLaws

@@ -182,6 +182,13 @@ unfolding tab
 length-tab zero i f = refl
 length-tab (suc n) i f = ap suc (length-tab n (suc i) f)
 
+-- the last of them
+pub tab-snoc : {A : Type 0} (n k : ℕ) (f : ℕ → A) → tab (suc n) k f ≡ tab n k f ++ (f (k + n) ∷ [])
+unfolding tab
+tab-snoc zero k f = ap (λ (x : ℕ). f x ∷ []) (sym (add-zero k))
+tab-snoc {A} (suc n) k f =
+    ap (λ (l : List A). f k ∷ l) (tab-snoc n (suc k) f ∙ ap (λ (x : ℕ). tab n (suc k) f ++ (f x ∷ [])) (suc-add k n ∙ sym (add-suc k n)))
+
 pub in-tab : (n i x : ℕ) → List·Memᴰ x (tab n i (λ b. b)) → (i ≤ x) × (x < i + n)
 unfolding tab
 in-tab zero i x m = absurd (List·Memᴰ·not-nil m)

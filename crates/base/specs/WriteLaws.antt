@@ -1,12 +1,12 @@
 -- A loop that writes a list to the front of a lent slice, one element or one part a turn. Assumes nothing.
-use mathlib.Core.Path.{_≡_, sym, ap, _∙_}
+use mathlib.Core.Path.{_≡_, sym, ap, ap₂, _∙_}
 use mathlib.Core.List.{List, [], _∷_, _++_, append-nil, append-assoc}
-use Prim.Native.Nat.{ℕ, zero, suc, _+_, _-_, _≤_, _<_}
+use Prim.Native.Nat.{ℕ, zero, suc, _+_, _-_, _*_, _≤_, _<_}
 use native.Mathlib.Nat.{zero-add}
 use native.Mathlib.Numerals.{add-one}
 use native.Mathlib.Omega.{arith}
-use lib.ListN.{length, getD, take, drop, set, drop-of-length-le}
-use lib.Seq.{paste-suc, take-length, length-paste, take-at, drop-at, drop-drop, sets, sets-eq, length-front, length-take-le}
+use lib.ListN.{length, getD, take, drop, set, drop-of-length-le, length-drop}
+use lib.Seq.{take-append-le, take-take, paste-suc, take-length, length-paste, take-at, drop-at, drop-drop, sets, sets-eq, length-front, length-take-le}
 
 -- the slice d with the first n elements of xs at its front
 abbrev pub wrote : List ℕ → List ℕ → ℕ → List ℕ
@@ -50,6 +50,25 @@ part-back w blk d out a e h l q =
     let size : a + (e - a) ≡ e = omega arith in
     ap (λ (x : List ℕ). take a x ++ (blk ++ drop (e - a) (drop a x))) q ∙ part-more w blk d a (e - a) l
     ∙ ap (λ (n : ℕ). (w ++ blk) ++ drop n d) size
+
+-- a part a .. e of a slice whose front to e is as it was is lent, and comes back as blk
+pub part-behind : (old rest blk out : List ℕ) (a e : ℕ) → a ≤ e → e ≤ length old → out ≡ take e old ++ rest
+    → take a out ++ (blk ++ drop (e - a) (drop a out)) ≡ take a old ++ (blk ++ rest)
+part-behind old rest blk out a e h l q =
+    let size : a + (e - a) ≡ e = omega arith in
+    let front : length (take e old) ≡ e = length-take-le e old l in
+    ap (λ (x : List ℕ). take a x ++ (blk ++ drop (e - a) (drop a x))) q
+    ∙ ap₂ (λ (x y : List ℕ). x ++ (blk ++ y)) (take-append-le a (take e old) rest (omega arith) ∙ take-take a e old h)
+    (drop-drop (e - a) a (take e old ++ rest) ∙ ap (λ (n : ℕ). drop n (take e old ++ rest)) size ∙ drop-at (take e old) rest e front)
+
+-- two parts of n fill a slice of twice as many
+pub fill-two : (n : ℕ) (old x y u v : List ℕ) → length old ≡ 2 * n → length u ≡ n → x ≡ u → y ≡ v
+    → take n (x ++ drop n old) ++ (y ++ drop n (drop n (x ++ drop n old))) ≡ u ++ v
+fill-two n old x y u v l e p q =
+    let none : drop n (drop n old) ≡ [] = drop-of-length-le (drop n old) {i = n} (omega (arith, length-drop n old)) in
+    ap₂ (λ (a b : List ℕ). take n (a ++ drop n old) ++ (b ++ drop n (drop n (a ++ drop n old)))) p q
+    ∙ ap₂ (λ (a b : List ℕ). a ++ (v ++ drop n b)) (take-at u (drop n old) n e) (drop-at u (drop n old) n e)
+    ∙ ap (λ (r : List ℕ). u ++ (v ++ r)) none ∙ ap (λ (r : List ℕ). u ++ r) (append-nil v)
 
 -- n stores from the front fill a slice of n
 pub fill : (l vs : List ℕ) → length l ≡ length vs → sets l 0 vs ≡ vs

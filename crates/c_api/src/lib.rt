@@ -2,7 +2,14 @@
 ghost use mathlib.Core.Path.{_≡_};
 ghost use Rattle.base.specs.Refusals.{refusedResult, resultOf};
 ghost use Rattle.c_api.specs.Packed.{packed, checkReply};
+ghost use lib.ListN.{length};
+ghost use Rattle.base.specs.Refusals.{left};
+ghost use Rattle.borrow_analysis.specs.Graph.{given};
+ghost use Rattle.borrow_analysis.specs.Borrows.{inUseReply, conditionalReply, dyingReply};
+ghost use Rattle.borrow_analysis.specs.Answers.{askedOf, dyingOf};
 use base::Refusal;
+use borrow_analysis::answers::Asked;
+use borrow_analysis::answers::Dying;
 use sheet::Checked;
 use sheet::check::check;
 
@@ -22,4 +29,64 @@ pub extern "C" fn sorzibelu_check(sheet: &[u8]) -> u64
         Checked::Accepted => 0,
         Checked::Refused(f) => refused(f),
     }
+}
+
+fn asked(a: Asked) -> u64
+    ensures { λ r. ⌜ r ≡ packed (askedOf a) ⌝ }
+{
+    match a {
+        Asked::Yes => 1,
+        Asked::No => 0,
+        Asked::Refused(f) => refused(f),
+    }
+}
+
+fn counted(d: Dying) -> u64
+    ensures { λ r. ⌜ r ≡ packed (dyingOf d) ⌝ }
+{
+    match d {
+        Dying::Count(n) => n as u64,
+        Dying::Refused(f) => refused(f),
+    }
+}
+
+// Whether a node is in use: 1 or 0.
+#[no_mangle]
+pub extern "C" fn sorzibelu_in_use(nodes: u32, live: u64, triples: &[u32], node: u32) -> u64
+    ensures { λ r. ⌜ r ≡ packed (resultOf (inUseReply (given nodes live (now (triples .entry))) node)) ⌝ }
+{
+    asked(borrow_analysis::in_use(nodes, live, triples, node))
+}
+
+// Whether a node is conditional: 1 or 0.
+#[no_mangle]
+pub extern "C" fn sorzibelu_conditional(nodes: u32, live: u64, triples: &[u32], node: u32) -> u64
+    ensures { λ r. ⌜ r ≡ packed (resultOf (conditionalReply (given nodes live (now (triples .entry))) node)) ⌝ }
+{
+    asked(borrow_analysis::conditional(nodes, live, triples, node))
+}
+
+// How many nodes die, and each as one byte of `out`.
+#[no_mangle]
+pub extern "C" fn sorzibelu_dying(
+    nodes: u32,
+    live: u64,
+    triples: &[u32],
+    next_nodes: u32,
+    next_live: u64,
+    next_triples: &[u32],
+    out: &mut [u8],
+) -> u64
+    ensures { λ r. ⌜ r ≡ packed (resultOf (dyingReply (given nodes live (now (triples .entry))) (given «next_nodes» «next_live» (now («next_triples» .entry))) (length (now (out .entry))))) ⌝ }
+    ensures { λ _. ⌜ now (out .exit) ≡ left (dyingReply (given nodes live (now (triples .entry))) (given «next_nodes» «next_live» (now («next_triples» .entry))) (length (now (out .entry)))) (now (out .entry)) ⌝ }
+{
+    counted(borrow_analysis::dying(
+        nodes,
+        live,
+        triples,
+        next_nodes,
+        next_live,
+        next_triples,
+        out,
+    ))
 }

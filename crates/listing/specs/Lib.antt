@@ -1,5 +1,4 @@
 pub mod Lines
-pub mod PutLaws
 pub mod Text
 pub mod NumberLaws
 pub mod TextLaws

@@ -15,7 +15,7 @@ use Rattle.base.specs.ListLaws.{getD-tab, length-tab}
 use Rattle.base.specs.JoinLaws.{by-lt}
 use Rattle.listing.specs.Lines.{hexDigit, hex, decimalIn, decimal}
 use Rattle.sheet.specs.AcceptedLaws.{Bytes}
-use Rattle.listing.specs.PutLaws.{Put}
+use Rattle.base.specs.PutLaws.{Put}
 
 -- ---- decimal
 

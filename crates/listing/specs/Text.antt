@@ -1,22 +1,9 @@
--- The text of livelist by the bytes that live writes, and how long it can be. Assumes nothing.
+-- The text of livelist by its two cases, and how long it can be. Assumes nothing.
 use Prim.Native.Nat.{ℕ, _+_, _*_}
 use mathlib.Core.List.{List, [], _∷_, _++_}
-use lib.ListN.{take, drop}
 use Rattle.base.specs.Sizes.{setBytes, maxInstructions}
-use Rattle.base.specs.Lists.{tab}
-use Rattle.base.specs.Bytes.{part, number}
 use Rattle.livevar_analysis.specs.Analysis.{LiveVarInfo}
 use Rattle.listing.specs.Lines.{decimal, lines, takenWord, refusedWord}
-
--- ---- what live wrote
-
--- before and after of one instruction
-unfoldable pub infoIn : List ℕ → LiveVarInfo
-infoIn p = record { before = number (take setBytes p); after = number (drop setBytes p) }
-
--- of n instructions
-unfoldable pub infosOf : ℕ → List ℕ → List LiveVarInfo
-infosOf n p = tab n 0 (λ k. infoIn (part p (2 * setBytes * k) (2 * setBytes)))
 
 -- ---- the text
 

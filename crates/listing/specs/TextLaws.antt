@@ -1,4 +1,4 @@
--- The lines of livelist one after the other, how long they are, and that they are read back from what live wrote. Assumes nothing.
+-- The lines of livelist one after the other, how long they are, and that the text is what livelist prints. Assumes nothing.
 use mathlib.Core.Path.{_≡_, refl, sym, ap, ap₂, _∙_}
 use mathlib.Core.List.{List, [], _∷_, _++_, append-nil, append-assoc}
 use Prim.Native.Nat.{ℕ, suc, _+_, _*_, _≤_, _<_}
@@ -8,12 +8,16 @@ use native.Mathlib.Omega.{arith}
 use lib.ListN.{length, length-append}
 use Rattle.base.specs.Sizes.{setBytes, maxInstructions}
 use Rattle.base.specs.Lists.{tab}
-use Rattle.base.specs.ListLaws.{length-tab}
-use Rattle.base.specs.TabLaws.{tab-snoc}
+use Rattle.base.specs.ListLaws.{length-tab, tab-snoc}
 use Rattle.base.specs.Bytes.{part}
-use Rattle.livevar_analysis.specs.Analysis.{LiveVarInfo}
-use Rattle.listing.specs.Lines.{hex, decimal, line, lines, takenWord}
-use Rattle.listing.specs.Text.{infoIn, infosOf, textOf, lineBytes}
+use Rattle.livevar_analysis.specs.Analysis.{LiveVarInfo, analyze, liveBytes}
+use Rattle.livevar_analysis.specs.OutputLaws.{live-read}
+use Rattle.base.specs.Refusals.{Answer, Accepted, Refused}
+use Rattle.sheet.specs.Layout.{codeOf, localsOf}
+use Rattle.sheet.specs.Checks.{checkSheet}
+use Rattle.listing.specs.Lines.{hex, decimal, line, lines, takenWord, printed, livelist}
+use Rattle.livevar_analysis.specs.Output.{infoIn, infosOf}
+use Rattle.listing.specs.Text.{textOf, refusedText, lineBytes}
 use Rattle.listing.specs.NumberLaws.{decimal-short, hex-length}
 
 -- ---- one line more
@@ -68,3 +72,18 @@ text-short n p h = omega (arith, infos-length n p, lines-short 0 (infosOf n p) (
 pub text-parts : (is : List LiveVarInfo) (taken : ℕ) → lines 0 is ++ (takenWord ++ decimal taken ++ (10 ∷ [])) ≡ textOf is taken
 unfolding textOf
 text-parts is taken = simp append-assoc
+
+-- ---- what livelist prints
+
+-- of an accepted sheet: the text of the bytes that live writes, whatever stands behind them, and the count
+pub livelist-live : (s : List ℕ) (n : ℕ) (z : List ℕ) → checkSheet s ≡ Accepted → n ≡ length (codeOf s)
+    → textOf (infosOf n (liveBytes (analyze (codeOf s) (localsOf s) .info) ++ z)) (analyze (codeOf s) (localsOf s) .taken) ≡ livelist s
+unfolding livelist printed textOf
+livelist-live s n z e q =
+    ap (λ (is : List LiveVarInfo). textOf is (analyze (codeOf s) (localsOf s) .taken)) (live-read s e n z q)
+    ∙ sym (ap (λ (a : Answer). printed a (analyze (codeOf s) (localsOf s))) e)
+
+-- of a refused one
+pub livelist-refused : (s : List ℕ) (num place : ℕ) → checkSheet s ≡ Refused num place → refusedText num place ≡ livelist s
+unfolding livelist printed refusedText
+livelist-refused s num place e = sym (ap (λ (a : Answer). printed a (analyze (codeOf s) (localsOf s))) e)

@@ -6,7 +6,7 @@ ghost use lib.ListN.{length};
 ghost use Rattle.base.specs.Bytes.{number};
 ghost use Rattle.base.specs.Sizes.{setBytes};
 ghost use Rattle.listing.specs.Lines.{hexDigit, hex, decimal};
-ghost use Rattle.listing.specs.PutLaws.{Put};
+ghost use Rattle.base.specs.PutLaws.{Put};
 use base::SET_BYTES;
 
 // How many digits a number has.

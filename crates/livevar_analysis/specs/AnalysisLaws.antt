@@ -97,36 +97,36 @@ before-lt l (r ∷ rs) h m b = h r (executeAll rs m) (List·Memᴰ·head refl) (
 
 module _ (code : List Bytecode) where
   -- the instructions behind k, to the end of its block
-  behind : ℕ → List Bytecode
+  pub behind : ℕ → List Bytecode
   behind k = take (upperOf code k - k) (drop (suc k) code)
 
-  rest-is : (k : ℕ) → k < length code → restOf code k ≡ at code k ∷ behind k
+  pub rest-is : (k : ℕ) → k < length code → restOf code k ≡ at code k ∷ behind k
   unfolding restOf behind
   rest-is k h =
       let size : suc (upperOf code k) - k ≡ suc (upperOf code k - k) = omega (arith, upper-le code k) in
       ap₂ (λ (x : ℕ) (l : List Bytecode). take x l) size (drop-cons code k nop h)
 
-  behind-last : (k : ℕ) → k < length code → Last code k → behind k ≡ []
+  pub behind-last : (k : ℕ) → k < length code → Last code k → behind k ≡ []
   unfolding behind
   behind-last k h last =
       let size : upperOf code k - k ≡ 0 = omega (arith, upper-stop code k h last) in
       ap (λ (x : ℕ). take x (drop (suc k) code)) size
 
-  behind-mid : (k : ℕ) → suc k < length code → starts code (suc k) ≡ false → behind k ≡ restOf code (suc k)
+  pub behind-mid : (k : ℕ) → suc k < length code → starts code (suc k) ≡ false → behind k ≡ restOf code (suc k)
   unfolding behind restOf
   behind-mid k h e =
       let size : upperOf code k - k ≡ suc (upperOf code (suc k)) - suc k = omega (arith, upper-next code k h e, upper-le code (suc k)) in
       ap (λ (x : ℕ). take x (drop (suc k) code)) size
 
   -- a block ends at k, or goes on
-  by-last : {P : Type 0} (k : ℕ) → k < length code → (Last code k → P) → (suc k < length code → starts code (suc k) ≡ false → P) → P
+  pub by-last : {P : Type 0} (k : ℕ) → k < length code → (Last code k → P) → (suc k < length code → starts code (suc k) ≡ false → P) → P
   unfolding Last
   by-last {P} k h stop on =
       by-eq (suc k) (length code) (λ e. stop (inl e))
       (λ g. by-test (λ b. starts code (suc k) ≡ b → P) (starts code (suc k)) (λ e q. stop (inr e)) (λ e q. on (omega arith) e) refl)
 
 -- an instruction's sides from its set after
-abbrev sidesBy : Bytecode → ℕ → LiveVarInfo
+abbrev pub sidesBy : Bytecode → ℕ → LiveVarInfo
 sidesBy r m = record { before = execute r m; after = m }
 
 -- ---- the graph of a sheet

@@ -161,11 +161,13 @@ module _ (code : List Bytecode) (sound : Sound code) (lows ups : List ℕ) (boun
       let o = getD (keyed code) (k - 2) 0 in
       subst (λ (x : ℕ). x < length code) (sym (bounds .up (k - 2) key-inside)) (upper-lt code o (in-keyed code sound o (getD-in (keyed code) (k - 2) 0 key-inside) .inside))
 
-  pub out-block : (lower upper m : ℕ) → lower ≡ getD lows (k - 2) 0 → upper ≡ getD ups (k - 2) 0
-      → executeAll (take (suc upper - lower) (drop lower code)) m ≡ outOf code (keyed code) k m
-  out-block lower upper m l u =
-      ap₂ (λ (x y : ℕ). executeAll (take (suc y - x) (drop x code)) m) (l ∙ bounds .low (k - 2) key-inside) (u ∙ bounds .up (k - 2) key-inside)
-      ∙ sym (ap (λ (x : ℕ). outOf code (keyed code) x m) key-is ∙ is)
+  -- r is what the rules from `lower` to `upper` make of m
+  pub out-block : (lower upper m own r : ℕ) → lower ≡ getD lows (k - 2) 0 → upper ≡ getD ups (k - 2) 0 → m ≡ own
+      → (upper < length code → r ≡ executeAll (take (suc upper - lower) (drop lower code)) m) → r ≡ outOf code (keyed code) k own
+  out-block lower upper m own r l u e made =
+      made (subst (λ (x : ℕ). x < length code) (sym u) upper-inside)
+      ∙ ap₂ (λ (x y : ℕ). executeAll (take (suc y - x) (drop x code)) m) (l ∙ bounds .low (k - 2) key-inside) (u ∙ bounds .up (k - 2) key-inside)
+      ∙ sym (ap (λ (x : ℕ). outOf code (keyed code) x m) key-is ∙ is) ∙ ap (outOf code (keyed code) k) e
     where
       key-is : k ≡ suc (suc (k - 2))
       key-is = omega arith

@@ -1,4 +1,4 @@
--- What an accepted sheet gives the functions of live: each instruction is in range. Assumes nothing.
+-- What an accepted sheet gives the functions of live: each instruction is in range, and the code is one that the engine takes. Assumes nothing.
 use mathlib.Core.Path.{_≡_, refl, sym, ap, _∙_, subst}
 use mathlib.Core.Bool.{Bool, true, cond, _&&_}
 use mathlib.Core.List.{List, [], _∷_, _++_, List·Memᴰ, Memᴰ·append-left, Memᴰ·append-right}
@@ -20,10 +20,11 @@ use Rattle.stackless_bytecode.specs.Kinds.{at, nop, dstsOf, srcsOf, isFlagged}
 use Rattle.sheet.specs.declared.Shape.{Shape}
 use Rattle.sheet.specs.Layout.{countOf, localsOf, recordBlocks, recordStart, recordAt, decode, codeOf, instructionAt}
 use Rattle.sheet.specs.Checks.{shapes, noShape, shapeOf, recordOk, placeOk, checkSheet}
-use Rattle.sheet.specs.CheckLaws.{clear}
+use Rattle.sheet.specs.CheckLaws.{clear, code-length, code-sound, locals-lt}
 use Rattle.sheet.specs.AcceptedLaws.{Fits, is-fits}
 use Rattle.sheet.specs.Valid.{Valid, accepted-valid}
 use Rattle.livevar_analysis.specs.Rules.{Below, InRange}
+use Rattle.livevar_analysis.specs.Engine.{Analyzable}
 
 -- ---- the table of kinds
 
@@ -93,3 +94,12 @@ module _ (s : List ℕ) (e : checkSheet s ≡ Accepted) where
   pub record-inside : (k : ℕ) → k < countOf s → (recordStart k + recordBytes ≤ length s) × (k < 2 * maxInstructions)
   unfolding recordBlocks
   record-inside k h = (omega (arith, valid .size), omega (arith, valid .few))
+
+  -- the code is what the engine asks for
+  pub analyzable : Analyzable (codeOf s) (localsOf s)
+  analyzable = record {
+    sound = code-sound s e;
+    few = omega (arith, code-length s, valid .few);
+    narrow = valid .locals;
+    sources = locals-lt s e;
+  }

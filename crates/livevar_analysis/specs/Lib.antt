@@ -14,3 +14,9 @@ pub mod DecodeLaws
 pub mod InputLaws
 pub mod EngineLaws
 pub mod RunLaws
+pub mod Output
+pub mod OutputLaws
+pub mod LiveCall
+pub mod LiveCallLaws
+pub mod Prepared
+pub mod PreparedLaws

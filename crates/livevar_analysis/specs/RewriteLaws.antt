@@ -14,6 +14,7 @@ use lib.Seq.{getD-append-add}
 use Rattle.dataflow_domains.specs.Mask.{bit, holds, minus}
 use Rattle.dataflow_domains.specs.MaskLaws.{bit-lt, bit-and, bit-minus, holds-true}
 use Rattle.stackless_bytecode.specs.declared.Bytecode.{Bytecode}
+use Rattle.base.specs.Sizes.{maxLocals}
 use Rattle.base.specs.Lists.{keep, count, total, joins, gather, has}
 use Rattle.stackless_bytecode.specs.Kinds.{nop, at, isExit, isFlagged, isJump, fallsThrough, branchDests, labelOf}
 use Rattle.stackless_bytecode.specs.Successors.{labelOffset}
@@ -379,12 +380,12 @@ module _ (code : List Bytecode) (info : List LiveVarInfo) (refs : ℕ) where
   pub losing-branch : (e : ℕ) → 0 < length (lostRefs code info refs e) → at code (e / 2) .kind ≡ 4
   unfolding lostRefs
   losing-branch e h =
-      by-test (λ b. eqb (at code (e / 2) .kind) 4 ≡ b → 0 < length {A = ℕ} (elim b as (λ _. List ℕ) [ true ↦ keep 64 0 (holds (minus (bitAnd (infoAt info (e / 2) .after) refs) (infoAt info (labelOffset code (targetOf code e)) .before))) | false ↦ [] ]) → at code (e / 2) .kind ≡ 4) (eqb (at code (e / 2) .kind) 4)
+      by-test (λ b. eqb (at code (e / 2) .kind) 4 ≡ b → 0 < length {A = ℕ} (elim b as (λ _. List ℕ) [ true ↦ keep maxLocals 0 (holds (minus (bitAnd (infoAt info (e / 2) .after) refs) (infoAt info (labelOffset code (targetOf code e)) .before))) | false ↦ [] ]) → at code (e / 2) .kind ≡ 4) (eqb (at code (e / 2) .kind) 4)
       (λ t q g. eqb-true _ 4 t) (λ t q g. absurd (not-suc-le-zero g)) refl h
 
   -- what an edge loses is in the Branch's after, a reference, and not in the target's before
   pub record Lost (e x : ℕ) : Type 0 where
-    pub low : x < 64
+    pub low : x < maxLocals
     pub in-after : bit (infoAt info (e / 2) .after) x ≡ 1
     pub in-refs : bit refs x ≡ 1
     pub out : bit (infoAt info (labelOffset code (targetOf code e)) .before) x ≡ 0
@@ -392,15 +393,15 @@ module _ (code : List Bytecode) (info : List LiveVarInfo) (refs : ℕ) where
   unfoldable pub lost-mask : ℕ → ℕ
   lost-mask e = minus (bitAnd (infoAt info (e / 2) .after) refs) (infoAt info (labelOffset code (targetOf code e)) .before)
 
-  pub lost-is : (e : ℕ) → at code (e / 2) .kind ≡ 4 → lostRefs code info refs e ≡ keep 64 0 (holds (lost-mask e))
+  pub lost-is : (e : ℕ) → at code (e / 2) .kind ≡ 4 → lostRefs code info refs e ≡ keep maxLocals 0 (holds (lost-mask e))
   unfolding lostRefs lost-mask
   lost-is e h =
-      ap (λ (b : Bool). elim b as (λ _. List ℕ) [ true ↦ keep 64 0 (holds (minus (bitAnd (infoAt info (e / 2) .after) refs) (infoAt info (labelOffset code (targetOf code e)) .before))) | false ↦ [] ]) (eq-eqb (at code (e / 2) .kind) 4 h)
+      ap (λ (b : Bool). elim b as (λ _. List ℕ) [ true ↦ keep maxLocals 0 (holds (minus (bitAnd (infoAt info (e / 2) .after) refs) (infoAt info (labelOffset code (targetOf code e)) .before))) | false ↦ [] ]) (eq-eqb (at code (e / 2) .kind) 4 h)
 
   pub in-lost : (e x : ℕ) → at code (e / 2) .kind ≡ 4 → List·Memᴰ x (lostRefs code info refs e) → Lost e x
   unfolding lost-mask
   in-lost e x h i =
-      let k = in-keep 64 0 x (holds (lost-mask e)) (subst (λ (l : List ℕ). List·Memᴰ x l) (lost-is e h) i) in
+      let k = in-keep maxLocals 0 x (holds (lost-mask e)) (subst (λ (l : List ℕ). List·Memᴰ x l) (lost-is e h) i) in
       let both = bitAnd (infoAt info (e / 2) .after) refs in
       let here = infoAt info (labelOffset code (targetOf code e)) .before in
       let one = holds-true (lost-mask e) x (k .test) in

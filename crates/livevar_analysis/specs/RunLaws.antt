@@ -1,25 +1,27 @@
 -- The main loop of the engine is the definition's run: its invariant, a turn, and its end. Assumes nothing.
 use mathlib.Core.Path.{_≡_, refl, sym, ap, ap₂, _∙_, subst}
-use mathlib.Core.Bool.{Bool, true, false, cond}
-use mathlib.Core.List.{List, [], _∷_, List·Memᴰ, List·Memᴰ·head}
+use mathlib.Core.Bool.{Bool, true, cond}
+use mathlib.Core.List.{List, [], _∷_, _++_, List·Memᴰ}
 use Prim.Native.Nat.{ℕ, zero, suc, _+_, _-_, _*_, _^_, _≤_, _<_}
 use native.Mathlib.Nat.{mul-le-mul}
 use native.Mathlib.Numerals.{add-one}
 use native.Mathlib.Omega.{arith}
 use lib.Count.{ones, ones-ones}
-use lib.ListN.{getD, length, take, replicate}
+use lib.ListN.{getD, set, length, take, replicate, length-set, length-replicate}
+use lib.Seq.{ext-getD}
 use lib.Pow.{ones-lt}
 use Rattle.base.specs.Sizes.{setWords, maxLocals, maxInstructions, takenBound, maxTaken}
 use Rattle.base.specs.Lists.{over, keep}
-use Rattle.base.specs.ListLaws.{by-test, in-take, getD-in}
+use Rattle.base.specs.ListLaws.{by-test, in-take, getD-in, copies-at}
 use Rattle.dataflow_domains.specs.MaskLaws.{sub-full, sub-lt}
 use Rattle.dataflow_domains.specs.Sets.{setAt, setsOf}
+use Rattle.dataflow_domains.specs.SliceLaws.{masks-zeros}
 use Rattle.dataflow_analysis.specs.declared.Cursor.{Cursor}
 use Rattle.dataflow_analysis.specs.Worklist.{State, begin, receive, news, popped, step, run}
 use Rattle.dataflow_analysis.specs.WorklistLaws as general
 use Rattle.dataflow_analysis.specs.MaskList.{masks, mask-laws, mask-size, met-inside}
-use Rattle.dataflow_analysis.specs.Queue.{listOf, stateOf}
-use Rattle.dataflow_analysis.specs.QueueLaws.{Took, took-popped, run-more, run-done}
+use Rattle.dataflow_analysis.specs.Queue.{listOf, Put, stateOf}
+use Rattle.dataflow_analysis.specs.QueueLaws.{list-none, Took, took-popped, run-more, run-done}
 use Rattle.dataflow_analysis.specs.ReceiptLaws.{at-node}
 use Rattle.stackless_bytecode.specs.declared.Bytecode.{Bytecode}
 use Rattle.stackless_bytecode.specs.SuccessorLaws.{Sound}
@@ -30,7 +32,7 @@ use Rattle.livevar_analysis.specs.LiveLaws.{transfer-lt}
 use Rattle.livevar_analysis.specs.Analysis.{outOf, analyzeFunction}
 use Rattle.livevar_analysis.specs.AnalysisLaws.{graph, narrow, bound-fits}
 use Rattle.livevar_analysis.specs.Term3.{keys-blocks}
-use Rattle.livevar_analysis.specs.Engine.{Analyzable, leads, given, stateAt, CanHand, HandedOn}
+use Rattle.livevar_analysis.specs.Engine.{Analyzable, Tables, leads, given, stateAt, CanHand, HandedOn, CanStep, Begun, CanRun, Input, Solved}
 
 -- ---- how many keys there are, and how many are taken
 
@@ -163,3 +165,110 @@ module _ (code : List Bytecode) (locals : ℕ) (ok : Analyzable code locals) whe
     runs-turn sets₁ met₁ q₁ next₁ h =
         subst (Runs code locals) (sym (h .state ∙ ap₂ (λ (m : ℕ) (s : State masks). over (receive m) s (leads code k)) (ap (out k) (sym own-is)) popped-is))
         (runs-step (stateAt n sets met q c) k (listOf q next) waits r)
+
+-- ---- the loop over the slices
+
+module _ (kills gens assigns preds starts lows ups sets₀ met₀ q₀ : List ℕ) (c₀ : Cursor) where
+  -- for whatever code the tables are, the slices have a state of its run
+  pub record Held (sets met q : List ℕ) (c : Cursor) : Type 0 where
+    pub runs : (code : List Bytecode) (locals : ℕ) → Begun code locals kills gens assigns preds starts lows ups sets₀ met₀ q₀ c₀ → Runs code locals (stateAt (2 + length (keyed code)) sets met q c)
+    pub list-fits : c .head + c .len ≤ length q
+    pub sets-kept : length sets ≡ length sets₀
+    pub met-kept : length met ≡ length met₀
+    pub q-kept : length q ≡ length q₀
+
+  module _ (can : CanRun kills gens assigns preds starts lows ups sets₀ met₀ q₀ c₀) where
+    pub held-begin : Held sets₀ met₀ q₀ c₀
+    held-begin = record {
+      runs = λ code locals b. subst (Runs code locals) (sym (b .state)) (runs-begin code locals (b .analyzable));
+      list-fits = can .begun .list-fits;
+      sets-kept = refl;
+      met-kept = refl;
+      q-kept = refl;
+    }
+
+    module _ (sets met q : List ℕ) (c : Cursor) (h : Held sets met q c) (next : Cursor) (k : ℕ) (took : Took q c k next) where
+      within : next .head + next .len ≤ length q
+      within = omega (arith, took .same-end, h .list-fits)
+
+      -- what `step` requires
+      pub held-asks : CanStep kills gens assigns preds starts lows ups sets met q next k
+      held-asks =
+          let a = can .begun .analyzable in
+          let nodes : length met ≡ 2 + length (keyed (can .code)) = h .met-kept ∙ can .begun .nodes in
+          let fits : length met * setWords ≤ length sets = omega (arith, can .begun .sets-fit, h .met-kept, h .sets-kept) in
+          let long : length q ≡ maxTaken = h .q-kept ∙ can .begun .list-long in
+          let r = h .runs (can .code) (can .locals) (can .begun) in
+          record {
+            code = can .code;
+            sound = a .sound;
+            tables = can .begun .tables;
+            nodes = nodes;
+            few = omega (arith, keys-few (can .code) (a .sound), a .few);
+            inside = omega (arith, key-inside (can .code) (can .locals) a sets met q c next k took fits nodes long within r);
+            hands = subst (λ (n : ℕ). CanHand n sets met q next (leads (can .code) k) (given (can .code) sets k)) (sym nodes) (runs-hands (can .code) (can .locals) a sets met q c next k took fits nodes long within r);
+          }
+
+      module _ (sets₁ met₁ q₁ : List ℕ) (next₁ : Cursor)
+          (stepped : (code : List Bytecode) → Sound code → Tables code kills gens assigns preds starts lows ups → length met ≡ 2 + length (keyed code)
+          → HandedOn (length met) sets met q next (leads code k) (given code sets k) sets₁ met₁ q₁ next₁) where
+        -- the head has moved by one
+        handed : HandedOn (length met) sets met q next (leads (can .code) k) (given (can .code) sets k) sets₁ met₁ q₁ next₁
+        handed = stepped (can .code) (can .begun .analyzable .sound) (can .begun .tables) (h .met-kept ∙ can .begun .nodes)
+
+        pub held-head : next₁ .head ≡ c .head + 1
+        held-head = handed .same-head ∙ took .next-head
+
+        pub held-more : length sets₁ ≡ length sets → length met₁ ≡ length met → length q₁ ≡ length q → Held sets₁ met₁ q₁ next₁
+        held-more ls lm lq = record {
+          runs = more;
+          list-fits = omega (arith, handed .list-fits);
+          sets-kept = ls ∙ h .sets-kept;
+          met-kept = lm ∙ h .met-kept;
+          q-kept = lq ∙ h .q-kept;
+        }
+          where
+            more : (code : List Bytecode) (locals : ℕ) → Begun code locals kills gens assigns preds starts lows ups sets₀ met₀ q₀ c₀ → Runs code locals (stateAt (2 + length (keyed code)) sets₁ met₁ q₁ next₁)
+            more code locals b =
+                let nodes : length met ≡ 2 + length (keyed code) = h .met-kept ∙ b .nodes in
+                runs-turn code locals (b .analyzable) sets met q c next k took (omega (arith, b .sets-fit, h .met-kept, h .sets-kept)) nodes (h .q-kept ∙ b .list-long) within (h .runs code locals b) sets₁ met₁ q₁ next₁
+                (subst (λ (n : ℕ). HandedOn n sets met q next (leads code k) (given code sets k) sets₁ met₁ q₁ next₁) nodes (stepped code (b .analyzable .sound) (b .tables) nodes))
+
+    -- the end: the list is empty
+    pub held-done : (sets met q : List ℕ) (c : Cursor) → Held sets met q c → listOf q c ≡ []
+        → (code : List Bytecode) (locals : ℕ) → Begun code locals kills gens assigns preds starts lows ups sets₀ met₀ q₀ c₀ → Solved code locals (c .head) sets
+    unfolding stateOf
+    held-done sets met q c h e code locals b =
+        let is = runs-done code locals (b .analyzable) (stateAt (2 + length (keyed code)) sets met q c) e (h .runs code locals b) in
+        record { taken = ap (λ (s : State masks). s .taken) (sym is); final = ap (λ (s : State masks). s .sets) (sym is) }
+
+-- ---- the beginning: all is 0, and key 1 is met and waits
+
+module _ (code : List Bytecode) (locals : ℕ) (kills gens assigns preds starts lows ups sets met q : List ℕ) (input : Input code locals kills gens assigns preds starts lows ups sets met q)
+    (none c : Cursor) (q₁ : List ℕ) (first : none .head ≡ 0) (empty : none .len ≡ 0) (put : Put q none 1 q₁ c) (long : length q₁ ≡ length q) where
+  no-sets : setsOf (2 + length (keyed code)) sets ≡ replicate (2 + length (keyed code)) 0
+  unfolding setsOf
+  no-sets = masks-zeros 64 setWords (2 + length (keyed code)) sets (input .sets-blank)
+
+  none-met : met ≡ replicate (2 + length (keyed code)) 0
+  none-met =
+      ext-getD 0 met (replicate (2 + length (keyed code)) 0) (input .nodes ∙ sym (length-replicate {A = ℕ} (2 + length (keyed code)) 0))
+      (λ i h. input .met-blank i ∙ sym (copies-at (2 + length (keyed code)) i 0))
+
+  state-begun : stateAt (2 + length (keyed code)) sets (set met 1 1) q₁ c ≡ begin (2 + length (keyed code)) 1
+  unfolding stateOf begin
+  state-begun =
+      let list : listOf q₁ c ≡ 1 ∷ [] = put .queued ∙ ap (λ (l : List ℕ). l ++ (1 ∷ [])) (list-none q none empty) in
+      let start : c .head ≡ 0 = put .same-head ∙ first in
+      rw (no-sets, none-met, list, start)
+
+  pub begun : Begun code locals kills gens assigns preds starts lows ups sets (set met 1 1) q₁ c
+  begun = record {
+    analyzable = input .analyzable;
+    tables = input .tables;
+    nodes = length-set met 1 1 ∙ input .nodes;
+    sets-fit = omega (arith, length-set met 1 1, input .sets-fit);
+    list-long = long ∙ input .list-long;
+    list-fits = omega (arith, put .same-head, put .longer, long, input .list-long);
+    state = state-begun;
+  }

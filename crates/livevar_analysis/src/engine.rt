@@ -1,7 +1,7 @@
 // The engine of live: the rules of a block from its end to its start, and the first-in work list over the backward graph, in lent slices. Assumes nothing.
 ghost use mathlib.Core.Path.{_≡_};
 ghost use mathlib.Core.List.{List};
-ghost use Prim.Native.Nat.{suc, _+_, _-_, _<_, _≤_};
+ghost use Prim.Native.Nat.{ℕ, suc, _+_, _-_, _<_, _≤_};
 ghost use lib.ListN.{length, take, drop};
 ghost use Rattle.base.specs.Lists.{tab};
 ghost use Rattle.dataflow_domains.specs.Sets.{mask};
@@ -10,19 +10,14 @@ ghost use Rattle.stackless_bytecode.specs.SuccessorLaws.{Sound};
 ghost use Rattle.stackless_control_flow_graph.specs.Blocks.{keyed};
 ghost use Rattle.livevar_analysis.specs.Analysis.{executeAll};
 ghost use Rattle.livevar_analysis.specs.Rules.{ruleAt, Ruled, RuleRoom};
-ghost use Rattle.livevar_analysis.specs.Engine.{Bounds, Tables, CanHand, HandedOn, CanOut, given, leads, CanStep};
+ghost use Rattle.livevar_analysis.specs.Engine.{Bounds, Tables, CanHand, HandedOn, CanOut, given, leads, CanStep, Begun, CanRun, Input, CanSolve, Solved};
 use dataflow_analysis::Cursor;
+use dataflow_analysis::Taken;
 use dataflow_analysis::receive_at;
 use dataflow_domains::LiveVarState;
 
 // Rule k of the slices, applied to the set m after it.
-fn apply(
-    kills: &[u64],
-    gens: &[u64],
-    assigns: &[u8],
-    k: usize,
-    m: LiveVarState,
-) -> LiveVarState
+pub fn apply(kills: &[u64], gens: &[u64], assigns: &[u8], k: usize, m: LiveVarState) -> LiveVarState
     requires { ⌜ RuleRoom (k + 1) (now kills) (now gens) (now assigns) ⌝ }
     ensures { λ r. ⌜ mask r ≡ ruleAt (now (kills .entry)) (now (gens .entry)) (now (assigns .entry)) k (mask m) ⌝ }
 {
@@ -153,4 +148,81 @@ fn step(
     let from = wide(starts[key]);
     let to = wide(starts[key + 1]);
     hand_on(sets, met, q, c, &preds[from..to], m)
+}
+
+// Keys are taken from the list until it is empty. Every one moves the cursor's head, so that in the end the head is the count.
+fn run(
+    kills: &[u64],
+    gens: &[u64],
+    assigns: &[u8],
+    preds: &[u16],
+    starts: &[u16],
+    lows: &[u16],
+    ups: &[u16],
+    sets: &mut [u64],
+    met: &mut [u8],
+    q: &mut [u16],
+    start: Cursor,
+) -> u32
+    requires { ⌜ CanRun (now kills) (now gens) (now assigns) (now preds) (now starts) (now lows) (now ups) (now sets) (now met) (now q) start ⌝ }
+    ensures { λ r. ⌜ ((code : List Bytecode) (locals : ℕ) → Begun code locals (now (kills .entry)) (now (gens .entry)) (now (assigns .entry)) (now (preds .entry)) (now (starts .entry)) (now (lows .entry)) (now (ups .entry)) (now (sets .entry)) (now (met .entry)) (now (q .entry)) start → Solved code locals r (now (sets .exit))) ⌝ }
+{
+    let mut c = start;
+    loop {
+        match c.take(q) {
+            Taken::Key(k, next) => {
+                c = step(
+                    kills,
+                    gens,
+                    assigns,
+                    preds,
+                    starts,
+                    lows,
+                    ups,
+                    sets,
+                    met,
+                    q,
+                    next,
+                    k,
+                );
+            }
+            Taken::Empty => {
+                return c.head as u32;
+            }
+        }
+    }
+}
+
+// The sets of all keys, in `sets`, and how many keys were taken. Key 1 is met and waits first.
+pub fn solve(
+    kills: &[u64],
+    gens: &[u64],
+    assigns: &[u8],
+    preds: &[u16],
+    starts: &[u16],
+    lows: &[u16],
+    ups: &[u16],
+    sets: &mut [u64],
+    met: &mut [u8],
+    q: &mut [u16],
+) -> u32
+    requires { ⌜ CanSolve (now kills) (now gens) (now assigns) (now preds) (now starts) (now lows) (now ups) (now sets) (now met) (now q) ⌝ }
+    ensures { λ r. ⌜ ((code : List Bytecode) (locals : ℕ) → Input code locals (now (kills .entry)) (now (gens .entry)) (now (assigns .entry)) (now (preds .entry)) (now (starts .entry)) (now (lows .entry)) (now (ups .entry)) (now (sets .entry)) (now (met .entry)) (now (q .entry)) → Solved code locals r (now (sets .exit))) ⌝ }
+{
+    let none = Cursor::new();
+    let start = none.put(q, 1);
+    met[1] = 1;
+    run(
+        kills,
+        gens,
+        assigns,
+        preds,
+        starts,
+        lows,
+        ups,
+        sets,
+        met,
+        q,
+        start,
+    )
 }

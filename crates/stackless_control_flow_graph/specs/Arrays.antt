@@ -1,19 +1,21 @@
 -- What the arrays hold that the blocks are worked out in. Assumes nothing.
 use mathlib.Core.Path.{_≡_}
-use mathlib.Core.Bool.{true, cond}
-use mathlib.Core.List.{List, [], _∷_, _++_, List·Memᴰ}
+use mathlib.Core.Bool.{Bool, true, cond}
+use mathlib.Core.List.{List, [], _∷_, _++_, map, List·Memᴰ}
 use Prim.Native.Nat.{ℕ, suc, _+_, _*_, _≤_, _<_}
 use lib.Dec.{eqb}
-use lib.ListN.{getD, set, length, take}
+use lib.ListN.{getD, set, length, take, replicate}
+use Rattle.base.specs.Sizes.{maxInstructions, recordBytes}
 use Rattle.base.specs.Lists.{keep, has, over, firsts}
 use Rattle.base.specs.ListLaws.{Distinct}
 use Rattle.base.specs.Refusals.{Accepted}
 use Rattle.stackless_bytecode.specs.declared.Bytecode.{Bytecode}
-use Rattle.stackless_bytecode.specs.Kinds.{at, isBranch, fallsThrough, branchDests}
+use Rattle.stackless_bytecode.specs.Kinds.{at, isExit, isBranch, fallsThrough, branchDests}
 use Rattle.stackless_bytecode.specs.Successors.{ascending, successors}
 use Rattle.stackless_bytecode.specs.Slots.{Resolved}
-use Rattle.sheet.specs.Layout.{countOf, codeOf}
+use Rattle.sheet.specs.Layout.{countOf, recordStart, instructionAt, codeOf}
 use Rattle.sheet.specs.Checks.{checkSheet}
+use Rattle.stackless_control_flow_graph.specs.declared.Three.{Three}
 use Rattle.stackless_control_flow_graph.specs.declared.Successors.{Successors}
 use Rattle.stackless_control_flow_graph.specs.Blocks.{starts, lowers, blocksOf, lowerOf, upperOf, keyed, keyOf}
 
@@ -78,14 +80,14 @@ pub record Listing (out : List ℕ) (c : ℕ) (xs out′ : List ℕ) (r : ℕ) :
   pub front : take r out′ ≡ take c out ++ xs
   pub count : r ≡ c + length xs
 
--- the arrays of the blocks, of which there are r
-pub record Cut (code : List Bytecode) (n r : ℕ) (goes marks ls uppers : List ℕ) : Type 0 where
-  pub size : length code ≡ n
-  pub going : Going code n goes
-  pub marked : Marked code marks
-  pub front : take r ls ≡ lowers code
-  pub count : r ≡ blocksOf code
+-- the arrays of all m blocks: the successors of each offset, the lowers by offset, and the upper of each offset
+pub record Cut (code : List Bytecode) (m : ℕ) (goes ls uppers : List ℕ) : Type 0 where
+  pub going : Going code (length code) goes
+  pub places : 2 * length code ≤ length goes
+  pub front : take m ls ≡ lowers code
+  pub count : m ≡ blocksOf code
   pub upper : Uppers code uppers
+  pub offsets : length code ≤ length uppers
 
 -- ---- keys
 
@@ -128,6 +130,29 @@ pub record Numbered (code : List Bytecode) (key order : List ℕ) (r : ℕ) : Ty
   pub front : take r order ≡ keyed code
   pub count : r ≡ blocksOf code
   pub each : (o : ℕ) → o < length key → getD key o 0 ≡ keyIn (keyed code) o
+
+-- ---- rows
+
+-- three keys by value
+abbrev pub threeOf : Three → List ℕ
+threeOf t = t .first ∷ t .second ∷ t .third ∷ []
+
+-- the keys of these successors, 1 last at an exit, 0 filling up
+unfoldable pub succKeysIn : List ℕ → List ℕ → Bool → List ℕ
+succKeysIn key xs exit = take 3 (map (λ o. getD key o 0) xs ++ cond exit (1 ∷ []) [] ++ replicate 3 0)
+
+-- the six numbers of the block from l to u
+unfoldable pub rowFrom : List ℕ → List ℕ → List ℕ → ℕ → ℕ → List ℕ
+rowFrom s goes key l u = l ∷ u ∷ getD key l 0 ∷ succKeysIn key (succsIn goes u) (isExit (instructionAt s u))
+
+-- of the block from l on
+abbrev pub rowIn : List ℕ → List ℕ → List ℕ → List ℕ → ℕ → List ℕ
+rowIn s goes uppers key l = rowFrom s goes key l (getD uppers l 0)
+
+-- offset k has a record in the sheet
+pub record Has (s : List ℕ) (k : ℕ) : Type 0 where
+  pub ends : recordStart k + recordBytes ≤ length s
+  pub few : k < 2 * maxInstructions
 
 -- ---- the pass over the instructions
 

@@ -1,22 +1,25 @@
 -- From the arrays to the definitions: the keys and the rows of code that the checks let through. Assumes nothing.
 use mathlib.Core.Path.{_≡_, refl, sym, ap, ap₂, _∙_, subst}
-use mathlib.Core.Bool.{true}
-use mathlib.Core.List.{List, [], _∷_, _++_, List·Memᴰ}
+use mathlib.Core.Bool.{Bool, true, cond}
+use mathlib.Core.List.{List, [], _∷_, _++_, map, List·Memᴰ}
 use Prim.Native.Nat.{ℕ, _+_, _*_, _≤_, _<_, zero-le}
 use native.Mathlib.Nat.{le-antisymm}
 use native.Mathlib.Omega.{arith}
-use lib.ListN.{getD, length, take, length-take}
+use lib.ListN.{getD, length, take, replicate, length-take}
 use lib.Seq.{getD-take}
 use Rattle.base.specs.Lists.{keep, gather, firsts}
-use Rattle.base.specs.ListLaws.{keep-in, in-keep, getD-in, Distinct}
+use Rattle.base.specs.ListLaws.{keep-in, in-keep, getD-in, in-has, Distinct}
 use Rattle.stackless_bytecode.specs.declared.Bytecode.{Bytecode}
+use Rattle.stackless_bytecode.specs.Kinds.{at, isExit}
 use Rattle.stackless_bytecode.specs.Successors.{successors}
 use Rattle.stackless_bytecode.specs.SuccessorLaws.{Sound}
-use Rattle.stackless_control_flow_graph.specs.Blocks.{starts, lowers, blocksOf, upperOf, keyed, keyOf}
-use Rattle.stackless_control_flow_graph.specs.BlockLaws.{Start, upper-lt, keyed-in, in-keyed, keyed-distinct}
-use Rattle.stackless_control_flow_graph.specs.Arrays.{succsIn, Within, Cut, keyIn, Keys, Gives, takers, Ready, Numbered}
-use Rattle.stackless_control_flow_graph.specs.MoreLists.{gather-agree, shorter, keep-distinct}
+use Rattle.sheet.specs.Layout.{instructionAt}
+use Rattle.stackless_control_flow_graph.specs.Blocks.{starts, lowers, blocksOf, upperOf, keyed, keyOf, succKeys, row, flowTable}
+use Rattle.stackless_control_flow_graph.specs.BlockLaws.{Start, succs-start, upper-lt, upper-last, keyed-in, in-keyed, keyed-distinct}
+use Rattle.stackless_control_flow_graph.specs.Arrays.{succsIn, Within, Cut, keyIn, Keys, Gives, takers, Ready, Numbered, succKeysIn, rowFrom, rowIn}
+use Rattle.stackless_control_flow_graph.specs.MoreLists.{gather-agree, map-agree, shorter, keep-distinct}
 use Rattle.stackless_control_flow_graph.specs.StartLaws.{succs-within}
+use Rattle.stackless_control_flow_graph.specs.KeyLaws.{key-some}
 
 -- ---- blocks
 
@@ -28,7 +31,7 @@ pub lowers-in : (code : List Bytecode) (o : ℕ) → Start code o → List·Mem�
 unfolding lowers
 lowers-in code o s = keep-in (length code) 0 o (starts code) zero-le (omega (arith, s .inside)) (s .starts)
 
-lowers-distinct : (code : List Bytecode) → Distinct (lowers code)
+pub lowers-distinct : (code : List Bytecode) → Distinct (lowers code)
 unfolding lowers
 lowers-distinct code = keep-distinct (length code) 0 (starts code)
 
@@ -41,7 +44,7 @@ keys-blocks code sound =
 
 -- ---- the arrays
 
-module _ (code : List Bytecode) (sound : Sound code) (n m : ℕ) (goes marks ls uppers : List ℕ) (cut : Cut code n m goes marks ls uppers) where
+module _ (code : List Bytecode) (sound : Sound code) (m : ℕ) (goes ls uppers : List ℕ) (cut : Cut code m goes ls uppers) where
   blocks : m ≡ length (lowers code)
   blocks = unfold blocksOf in cut .count
 
@@ -59,16 +62,16 @@ module _ (code : List Bytecode) (sound : Sound code) (n m : ℕ) (goes marks ls 
   block-upper o s = cut .upper .each o (s .inside)
 
   pub block-next : (o : ℕ) → Start code o → succsIn goes (getD uppers o 0) ≡ successors code (upperOf code o)
-  block-next o s = ap (succsIn goes) (block-upper o s) ∙ cut .going .each (upperOf code o) (omega (arith, cut .size, upper-lt code o (s .inside)))
+  block-next o s = ap (succsIn goes) (block-upper o s) ∙ cut .going .each (upperOf code o) (upper-lt code o (s .inside))
 
-  pub cut-ready : (N : ℕ) → n ≤ N → 2 * n ≤ length goes → n ≤ length uppers → Ready goes ls uppers m N
-  cut-ready N most places wide = record {
+  pub cut-ready : (n : ℕ) → length code ≤ n → Ready goes ls uppers m n
+  cut-ready n most = record {
     blocks = long;
-    lower = λ b h. omega (arith, cut .size, block-start b h .inside);
-    upper = λ b h. omega (arith, cut .size, block-start b h .inside);
-    places = λ b h. let s = block-start b h in omega (arith, cut .size, block-upper (getD ls b 0) s, upper-lt code (getD ls b 0) (s .inside));
+    lower = λ b h. omega (arith, block-start b h .inside);
+    upper = λ b h. omega (arith, cut .offsets, block-start b h .inside);
+    places = λ b h. let s = block-start b h in omega (arith, cut .places, block-upper (getD ls b 0) s, upper-lt code (getD ls b 0) (s .inside));
     next = λ b h. let s = block-start b h in
-    record { each = λ x i. omega (arith, cut .size, succs-within code sound (upperOf code (getD ls b 0)) (upper-lt code (getD ls b 0) (s .inside)) .each x (subst (λ (l : List ℕ). List·Memᴰ x l) (block-next (getD ls b 0) s) i)) };
+        record { each = λ x i. omega (arith, succs-within code sound (upperOf code (getD ls b 0)) (upper-lt code (getD ls b 0) (s .inside)) .each x (subst (λ (l : List ℕ). List·Memᴰ x l) (block-next (getD ls b 0) s) i)) };
   }
 
   cut-takers : gather (takers goes uppers) (take m ls) ≡ gather (λ l. successors code (upperOf code l) ++ (l ∷ [])) (lowers code)
@@ -85,3 +88,35 @@ module _ (code : List Bytecode) (sound : Sound code) (n m : ℕ) (goes marks ls 
     where
       front : take r order ≡ keyed code
       front = g .front ∙ ap (firsts []) cut-takers ∙ sym (unfold keyed in refl)
+
+  -- ---- the key of a start, and of the successors of a block
+
+  module _ (key order : List ℕ) (r : ℕ) (most : length code ≤ length key) (numbered : Numbered code key order r) where
+    pub key-at : (o : ℕ) → Start code o → getD key o 0 ≡ keyOf (keyed code) o
+    key-at o s = numbered .each o (omega (arith, s .inside)) ∙ key-some (keyed code) o (in-has o (keyed code) (keyed-in code o s))
+
+    pub keys-at : (o : ℕ) → Start code o → map (λ x. getD key x 0) (successors code (upperOf code o)) ≡ map (keyOf (keyed code)) (successors code (upperOf code o))
+    keys-at o s =
+        map-agree (λ x. getD key x 0) (keyOf (keyed code)) (successors code (upperOf code o))
+        (λ x i. key-at x (succs-start code sound (upperOf code o) x (upper-lt code o (s .inside)) (upper-last code o (s .inside)) i))
+
+    -- ---- the rows
+
+    module _ (s : List ℕ) (is : (k : ℕ) → k < length code → at code k ≡ instructionAt s k) where
+      row-is : (o : ℕ) → Start code o → rowIn s goes uppers key o ≡ row code (keyed code) o
+      unfolding rowFrom row
+      row-is o b =
+          ap₂ (λ (u : ℕ) (xs : List ℕ). o ∷ u ∷ xs) (block-upper o b)
+          (ap₂ (λ (k : ℕ) (xs : List ℕ). k ∷ xs) (key-at o b) (keys-are o b))
+        where
+          keys-are : (x : ℕ) → Start code x → succKeysIn key (succsIn goes (getD uppers x 0)) (isExit (instructionAt s (getD uppers x 0))) ≡ succKeys code (keyed code) (upperOf code x)
+          keys-are x q =
+              unfold succKeysIn succKeys in ap₂ (λ (l : List ℕ) (e : Bool). take 3 (l ++ cond e (1 ∷ []) [] ++ replicate 3 0))
+              (ap (map (λ y. getD key y 0)) (block-next x q) ∙ keys-at x q)
+              (ap isExit (ap (instructionAt s) (block-upper x q) ∙ sym (is (upperOf code x) (upper-lt code x (q .inside)))))
+
+      pub cut-rows : gather (rowIn s goes uppers key) (take m ls) ≡ flowTable code
+      unfolding flowTable
+      cut-rows =
+          ap (gather (rowIn s goes uppers key)) (cut .front)
+          ∙ gather-agree (rowIn s goes uppers key) (row code (keyed code)) (lowers code) (λ o i. row-is o (in-lowers code o i))

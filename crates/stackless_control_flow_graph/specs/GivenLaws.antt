@@ -8,7 +8,9 @@ use borrow.Author.Tests.{lt-ltb}
 use lib.Dec.{ltb}
 use lib.ListN.{getD, set, length}
 use lib.Seq.{getD-set-same, getD-set-other}
+use Rattle.base.specs.Sizes.{maxInstructions}
 use Rattle.base.specs.Lists.{zeros}
+use Rattle.base.specs.Refusals.{Accepted}
 use Rattle.base.specs.ListLaws.{by-eq}
 use Rattle.base.specs.SearchLaws.{none-all}
 use Rattle.stackless_bytecode.specs.declared.Bytecode.{Bytecode}
@@ -17,35 +19,46 @@ use Rattle.stackless_bytecode.specs.Successors.{successors}
 use Rattle.stackless_bytecode.specs.SuccessorLaws.{Sound}
 use Rattle.stackless_bytecode.specs.SlotLaws.{Below}
 use Rattle.sheet.specs.Layout.{countOf, recordBlocks, recordAt, decode, instructionAt, codeOf}
-use Rattle.sheet.specs.Checks.{recordOk, placeOk}
+use Rattle.sheet.specs.Checks.{recordOk, placeOk, checkSheet}
 use Rattle.sheet.specs.CheckLaws.{clear, code-sound}
-use Rattle.sheet.specs.Shaped.{Shaped, code-size, code-at}
+use Rattle.sheet.specs.Shaped.{Shaped, code-size, code-at, record-inside}
 use Rattle.sheet.specs.Valid.{Valid, accepted-valid}
 use Rattle.stackless_control_flow_graph.specs.declared.Successors.{Successors}
 use Rattle.stackless_control_flow_graph.specs.Blocks.{starts}
-use Rattle.stackless_control_flow_graph.specs.Arrays.{listOf, succsBy, putTwo, markAll, Within, Going, Marking, Visits, Given}
+use Rattle.stackless_control_flow_graph.specs.Arrays.{listOf, succsBy, putTwo, markAll, Within, Going, Marking, Visits, Has, Given}
 use Rattle.stackless_control_flow_graph.specs.StartLaws.{resolved-succs, succs-within, two-places, going-more, marks-skip, marks-more}
+
+-- ---- an accepted sheet
+
+module _ (s : List ℕ) (accepted : checkSheet s ≡ Accepted) where
+  within : (k : ℕ) → k < countOf s → k < 15 * recordBlocks (countOf s)
+  within k h = unfold recordBlocks in omega arith
+
+  placed : (k : ℕ) → k < countOf s → cond (ltb k (countOf s)) (recordOk (decode (recordAt s k))) (zeros (recordAt s k)) ≡ true
+  placed k h = unfold placeOk in none-all (15 * recordBlocks (countOf s)) 0 (placeOk s) (clear s accepted .four) k (omega arith) (omega (arith, within k h))
+
+  fits : (k : ℕ) → k < countOf s → recordOk (decode (recordAt s k)) ≡ true
+  fits k h = sym (ap (λ (b : Bool). cond b (recordOk (decode (recordAt s k))) (zeros (recordAt s k))) (lt-ltb k (countOf s) h)) ∙ placed k h
+
+  pub accepted-shaped : Shaped s (countOf s)
+  accepted-shaped =
+      let v = accepted-valid s accepted in
+      record { count = refl; some = v .some; few = v .few; size = v .size; each = λ k h. unfold instructionAt in fits k h }
+
+  pub accepted-few : length (codeOf s) ≤ maxInstructions
+  accepted-few = omega (arith, code-size accepted-shaped, accepted-shaped .few)
+
+  pub accepted-at : (k : ℕ) → k < length (codeOf s) → at (codeOf s) k ≡ instructionAt s k
+  accepted-at k h = code-at accepted-shaped k (omega (arith, code-size accepted-shaped))
+
+  pub accepted-has : (k : ℕ) → k < length (codeOf s) → Has s k
+  accepted-has k h = record { ends = record-inside accepted-shaped k (omega (arith, code-size accepted-shaped)); few = omega (arith, accepted-few) }
+
+-- ---- and the offsets of its labels
 
 module _ {s : List ℕ} {n : ℕ} {targets : List ℕ} (g : Given s n targets) where
   pub given-shaped : Shaped s n
-  given-shaped =
-      let v = accepted-valid s (g .accepted) in
-      record {
-        count = g .count;
-        some = omega (arith, v .some, g .count);
-        few = omega (arith, v .few, g .count);
-        size = v .size ∙ ap (λ (x : ℕ). 512 * (1 + recordBlocks x)) (sym (g .count));
-        each = λ k h. unfold instructionAt in fits k (omega (arith, g .count));
-      }
-    where
-      within : (k : ℕ) → k < countOf s → k < 15 * recordBlocks (countOf s)
-      within k h = unfold recordBlocks in omega arith
-
-      placed : (k : ℕ) → k < countOf s → cond (ltb k (countOf s)) (recordOk (decode (recordAt s k))) (zeros (recordAt s k)) ≡ true
-      placed k h = unfold placeOk in none-all (15 * recordBlocks (countOf s)) 0 (placeOk s) (clear s (g .accepted) .four) k (omega arith) (omega (arith, within k h))
-
-      fits : (k : ℕ) → k < countOf s → recordOk (decode (recordAt s k)) ≡ true
-      fits k h = sym (ap (λ (b : Bool). cond b (recordOk (decode (recordAt s k))) (zeros (recordAt s k))) (lt-ltb k (countOf s) h)) ∙ placed k h
+  given-shaped = subst (λ (x : ℕ). Shaped s x) (sym (g .count)) (accepted-shaped s (g .accepted))
 
   pub given-sound : Sound (codeOf s)
   given-sound = code-sound s (g .accepted)

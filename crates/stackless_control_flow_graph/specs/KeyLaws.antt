@@ -105,11 +105,11 @@ pub pair-none : (a b : ℕ) → a ≡ noOffset → [] ≡ pairOf a b
 unfolding pairOf
 pair-none a b e = ap (λ (t : Bool). cond t [] (a ∷ cond (eqb b noOffset) [] (b ∷ []))) (sym (eq-eqb a noOffset e))
 
-pair-one : (a b : ℕ) → (a ≡ noOffset → ⊥) → b ≡ noOffset → a ∷ [] ≡ pairOf a b
+pub pair-one : (a b : ℕ) → (a ≡ noOffset → ⊥) → b ≡ noOffset → a ∷ [] ≡ pairOf a b
 unfolding pairOf
 pair-one a b g e = sym (ap₂ (λ (s t : Bool). cond s [] (a ∷ cond t [] (b ∷ []))) (ne-eqb a noOffset g) (eq-eqb b noOffset e))
 
-pair-two : (a b : ℕ) → (a ≡ noOffset → ⊥) → (b ≡ noOffset → ⊥) → a ∷ b ∷ [] ≡ pairOf a b
+pub pair-two : (a b : ℕ) → (a ≡ noOffset → ⊥) → (b ≡ noOffset → ⊥) → a ∷ b ∷ [] ≡ pairOf a b
 unfolding pairOf
 pair-two a b g h = sym (ap₂ (λ (s t : Bool). cond s [] (a ∷ cond t [] (b ∷ []))) (ne-eqb a noOffset g) (ne-eqb b noOffset h))
 
@@ -128,16 +128,27 @@ near n goes l u h w = record {
   second = λ g q. w .each _ (pair-second (getD goes (2 * u) 0) (getD goes (2 * u + 1) 0) g q);
 }
 
--- a block with one successor, and with two
-pub gives-one : (a b l x : ℕ) {key by key′ by′ key″ by″ : List ℕ} {c r r′ : ℕ} → (a ≡ noOffset → ⊥) → b ≡ noOffset → x ≡ a
-    → Gives (x ∷ []) key by c key′ by′ r → Gives (l ∷ []) key′ by′ r key″ by″ r′ → Gives (pairOf a b ++ (l ∷ [])) key by c key″ by″ r′
-gives-one a b l x g e s p q =
-    rw (← (pair-one a b g e), ← s) (give-then (x ∷ []) (l ∷ []) p q)
+-- a block with no successor, with one, and with two
+module _ (a b l x y : ℕ) (s : x ≡ a) (t : y ≡ b) where
+  pub gives-none : {key by key′ by′ : List ℕ} {c r : ℕ} → x ≡ noOffset → Gives (l ∷ []) key by c key′ by′ r → Gives (pairOf a b ++ (l ∷ [])) key by c key′ by′ r
+  gives-none e p = rw (← (pair-none a b (sym s ∙ e))) p
 
-pub gives-two : (a b l x y : ℕ) {key by key′ by′ key″ by″ key‴ by‴ : List ℕ} {c r r′ r″ : ℕ} → (a ≡ noOffset → ⊥) → (b ≡ noOffset → ⊥) → x ≡ a → y ≡ b
-    → Gives (x ∷ []) key by c key′ by′ r → Gives (y ∷ []) key′ by′ r key″ by″ r′ → Gives (l ∷ []) key″ by″ r′ key‴ by‴ r″ → Gives (pairOf a b ++ (l ∷ [])) key by c key‴ by‴ r″
-gives-two a b l x y g h s t p q o =
-    rw (← (pair-two a b g h), ← s, ← t) (give-then (x ∷ y ∷ []) (l ∷ []) (give-then (x ∷ []) (y ∷ []) p q) o)
+  pub gives-one : {key by key′ by′ key″ by″ : List ℕ} {c r r′ : ℕ} → (x ≡ noOffset → ⊥) → y ≡ noOffset
+      → Gives (x ∷ []) key by c key′ by′ r → Gives (l ∷ []) key′ by′ r key″ by″ r′ → Gives (pairOf a b ++ (l ∷ [])) key by c key″ by″ r′
+  gives-one g e p q = rw (← (pair-one a b (λ z. g (s ∙ z)) (sym t ∙ e)), ← s) (give-then (x ∷ []) (l ∷ []) p q)
+
+  pub gives-two : {key by key′ by′ key″ by″ key‴ by‴ : List ℕ} {c r r′ r″ : ℕ} → (x ≡ noOffset → ⊥) → (y ≡ noOffset → ⊥)
+      → Gives (x ∷ []) key by c key′ by′ r → Gives (y ∷ []) key′ by′ r key″ by″ r′ → Gives (l ∷ []) key″ by″ r′ key‴ by‴ r″ → Gives (pairOf a b ++ (l ∷ [])) key by c key‴ by‴ r″
+  gives-two g h p q o =
+      rw (← (pair-two a b (λ z. g (s ∙ z)) (λ z. h (t ∙ z))), ← s, ← t) (give-then (x ∷ y ∷ []) (l ∷ []) (give-then (x ∷ []) (y ∷ []) p q) o)
+
+-- the successors are offsets below n
+module _ (n : ℕ) (goes : List ℕ) (l u x y : ℕ) (w : Near n goes l u) (s : x ≡ getD goes (2 * u) 0) (t : y ≡ getD goes (2 * u + 1) 0) where
+  pub near-first : (x ≡ noOffset → ⊥) → x < n
+  near-first g = omega (arith, w .first (λ z. g (s ∙ z)))
+
+  pub near-second : (x ≡ noOffset → ⊥) → (y ≡ noOffset → ⊥) → y < n
+  near-second g h = omega (arith, w .second (λ z. g (s ∙ z)) (λ z. h (t ∙ z)))
 
 -- ---- all blocks
 

@@ -1,6 +1,7 @@
 pub mod Blocks
 pub mod Backward
 pub mod BlockLaws
+pub mod Flow
 pub mod Arrays
 pub mod NextLaws
 pub mod StartLaws
@@ -9,3 +10,7 @@ pub mod MoreLists
 pub mod OffsetLaws
 pub mod KeyLaws
 pub mod FlowLaws
+pub mod RowLaws
+pub mod CallLaws
+pub mod Sorting
+pub mod SortLaws

@@ -2,7 +2,7 @@
 use mathlib.Core.Path.{_≡_, refl, sym, ap, ap₂, _∙_}
 use mathlib.Core.Logic.{_≢_, ⊎-elim}
 use mathlib.Core.Bool.{Bool, true, false, cond, _||_, true≢false}
-use mathlib.Core.List.{List, [], _∷_, _++_, append-nil, append-assoc, List·Memᴰ, List·Memᴰ·head, List·Memᴰ·tail, List·Memᴰ·not-nil, List·Memᴰ·cases-cons, Memᴰ·cast}
+use mathlib.Core.List.{List, [], _∷_, _++_, map, append-nil, append-assoc, List·Memᴰ, List·Memᴰ·head, List·Memᴰ·tail, List·Memᴰ·not-nil, List·Memᴰ·cases-cons, Memᴰ·cast}
 use Prim.Native.Nat.{ℕ, zero, suc, _+_, _≤_, _<_, zero-le}
 use native.Mathlib.Nat.{add-zero}
 use native.Mathlib.Numerals.{add-one}
@@ -53,6 +53,10 @@ gather-more {A} {B} f xs k d h =
   where
     one : (x : A) → gather f (x ∷ []) ≡ f x
     one x = unfold gather in append-nil (f x)
+
+pub map-agree : {A B : Type 0} (f g : A → B) (xs : List A) → ((x : A) → List·Memᴰ x xs → f x ≡ g x) → map f xs ≡ map g xs
+map-agree f g [] h = refl
+map-agree {B = B} f g (x ∷ xs) h = ap₂ (λ (y : B) (l : List B). y ∷ l) (h x (List·Memᴰ·head refl)) (map-agree f g xs (λ y i. h y (List·Memᴰ·tail i)))
 
 -- ---- `has`, `place`, `firsts`
 

@@ -130,7 +130,7 @@ pub heads-more : (code : List Bytecode) (marks heads : List ℕ) (k head head′
     → Heading code heads k head → Heading code (set heads k head′) (k + 1) head′
 heads-more code marks heads k head head′ m h room is u = record {
   each = λ j l. by-eq j k (λ e. ap (λ (x : ℕ). getD (set heads k head′) x 0) e ∙ getD-set-same heads k head′ 0 room ∙ here ∙ ap (lowerOf code) (sym e))
-  (λ g. getD-set-other heads k j head′ 0 g ∙ u .each j (omega arith));
+      (λ g. getD-set-other heads k j head′ 0 g ∙ u .each j (omega arith));
   last = λ j e. here ∙ ap (lowerOf code) (omega arith);
 }
   where

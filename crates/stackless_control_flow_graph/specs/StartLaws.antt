@@ -193,15 +193,15 @@ pub marks-more : (code : List Bytecode) → Sound code → (k : ℕ) (m : List �
     → Marking code k m → Marking code (k + 1) (markAll m ((k + 1) ∷ successors code k))
 marks-more code sound k m h room e g = record {
   sound = λ j l q. ⊎-elim (λ w. g .sound j l w) (λ i. ⊎-elim (λ s. behind j s l) (λ t. succs-start code sound k j h last t .starts) (List·Memᴰ·cases-cons i))
-  (in-mark m ((k + 1) ∷ successors code k) j q);
+      (in-mark m ((k + 1) ∷ successors code k) j q);
   entry = mark-kept m ((k + 1) ∷ successors code k) 0 (g .entry);
   behind = λ j l i b. by-eq j k
-  (λ q. mark-in m ((k + 1) ∷ successors code k) (suc j) (omega arith) (List·Memᴰ·head (ap suc q ∙ sym (add-one k))))
-  (λ q. mark-kept m ((k + 1) ∷ successors code k) (suc j) (g .behind j (omega arith) i b));
+      (λ q. mark-in m ((k + 1) ∷ successors code k) (suc j) (omega arith) (List·Memᴰ·head (ap suc q ∙ sym (add-one k))))
+      (λ q. mark-kept m ((k + 1) ∷ successors code k) (suc j) (g .behind j (omega arith) i b));
   named = λ j o l b i. by-eq j k
-  (λ q. let t : List·Memᴰ o (successors code k) = subst (λ (x : ℕ). List·Memᴰ o (successors code x)) q i in
-  mark-in m ((k + 1) ∷ successors code k) o (omega (arith, succs-within code sound k h .each o t)) (List·Memᴰ·tail t))
-  (λ q. mark-kept m ((k + 1) ∷ successors code k) o (g .named j o (omega arith) b i));
+      (λ q. let t : List·Memᴰ o (successors code k) = subst (λ (x : ℕ). List·Memᴰ o (successors code x)) q i in
+      mark-in m ((k + 1) ∷ successors code k) o (omega (arith, succs-within code sound k h .each o t)) (List·Memᴰ·tail t))
+      (λ q. mark-kept m ((k + 1) ∷ successors code k) o (g .named j o (omega arith) b i));
 }
   where
     last : Last code k
@@ -229,8 +229,10 @@ names-branch r l i = go (eqb (r .kind) 4) (eqb (r .kind) 5) (isFlagged r) i
     go false false false m = absurd (List·Memᴰ·not-nil m)
 
 pub marks-end : (code : List Bytecode) (m : List ℕ) → Marking code (length code) m → Marked code m
-marks-end code m g = record { each = λ k h. by-test (λ b. starts code k ≡ b → eqb (getD m k 0) 1 ≡ b) (starts code k)
-    (λ e q. eq-eqb (getD m k 0) 1 (on k h e)) (λ e q. ne-eqb (getD m k 0) 1 (λ s. true≢false (sym (g .sound k h s) ∙ e))) refl }
+marks-end code m g = record {
+  each = λ k h. by-test (λ b. starts code k ≡ b → eqb (getD m k 0) 1 ≡ b) (starts code k)
+      (λ e q. eq-eqb (getD m k 0) 1 (on k h e)) (λ e q. ne-eqb (getD m k 0) 1 (λ s. true≢false (sym (g .sound k h s) ∙ e))) refl;
+}
   where
     on : (k : ℕ) → k < length code → starts code k ≡ true → getD m k 0 ≡ 1
     on zero h e = g .entry

@@ -91,7 +91,7 @@ pub fn cut(
     uppers: &mut [u16],
 ) -> usize
     requires { ⌜ Given (now sheet) n (now targets) × (2 * n ≤ length (now goes)) × (n < length (now marks)) × ((j : ℕ) → getD (now marks) j 0 ≡ 0) × (n ≤ length (now lowers)) × (n ≤ length (now uppers)) ⌝ }
-    ensures { λ r. ⌜ Cut (codeOf (now (sheet .entry))) n r (now (goes .exit)) (now (marks .exit)) (now (lowers .exit)) (now (uppers .exit)) ⌝ }
+    ensures { λ r. ⌜ Cut (codeOf (now (sheet .entry))) r (now (goes .exit)) (now (lowers .exit)) (now (uppers .exit)) × Marked (codeOf (now (sheet .entry))) (now (marks .exit)) ⌝ }
 {
     visit_all(sheet, n, targets, goes, marks);
     find_uppers(marks, n, uppers);

@@ -5,7 +5,8 @@ ghost use Prim.Native.Nat.{ℕ, _+_, _*_, _≤_, _<_};
 ghost use lib.ListN.{length, getD, take};
 ghost use Rattle.base.specs.Lists.{gather};
 ghost use Rattle.stackless_control_flow_graph.specs.Arrays.{succsIn, Keys, Gives, Near, takers, Ready};
-use super::starts::NO_OFFSET;
+// Stands for no offset.
+const NO_OFFSET: usize = 65535;
 
 // The first key of a block: 0 and 1 are the dummy entrance and exit.
 pub const FIRST_KEY: usize = 2;
@@ -24,7 +25,7 @@ fn narrow(x: usize) -> u16
 }
 
 // The next key to offset o, where it has none yet; how many offsets have keys then.
-fn give(o: usize, key: &mut [u16], order: &mut [u16], c: usize) -> usize
+fn give(c: usize, o: usize, key: &mut [u16], order: &mut [u16]) -> usize
     requires { ⌜ Keys (now key) (now order) c × (o < length (now key)) × (length (now key) ≤ length (now order)) × (length (now key) < 65534) ⌝ }
     ensures { λ r. ⌜ Gives (o ∷ []) (now (key .entry)) (now (order .entry)) c (now (key .exit)) (now (order .exit)) r ⌝ }
 {
@@ -37,25 +38,31 @@ fn give(o: usize, key: &mut [u16], order: &mut [u16], c: usize) -> usize
 }
 
 // Keys for the block from l to u: its successors first, then the block.
-fn give_block(goes: &[u16], l: usize, u: usize, key: &mut [u16], order: &mut [u16], c: usize) -> usize
+fn give_block(
+    c: usize,
+    goes: &[u16],
+    l: usize,
+    u: usize,
+    key: &mut [u16],
+    order: &mut [u16],
+) -> usize
     requires { ⌜ Keys (now key) (now order) c × Near (length (now key)) (now goes) l u × (2 * u + 1 < length (now goes)) × (length (now key) ≤ length (now order)) × (length (now key) < 65534) ⌝ }
     ensures { λ r. ⌜ Gives (succsIn (now (goes .entry)) u ++ (l ∷ [])) (now (key .entry)) (now (order .entry)) c (now (key .exit)) (now (order .exit)) r ⌝ }
 {
     let at = 2 * u;
-    let first = goes[at];
+    let first = wide(goes[at]);
+    let second = wide(goes[at + 1]);
     if first == NO_OFFSET {
-        return give(l, key, order, c);
+        return give(c, l, key, order);
     }
-    let d = give(wide(first), key, order, c);
-    let second = goes[at + 1];
     if second == NO_OFFSET {
-        return give(l, key, order, d);
+        return give(give(c, first, key, order), l, key, order);
     }
-    let e = give(wide(second), key, order, d);
-    give(l, key, order, e)
+    let d = give(c, first, key, order);
+    give(give(d, second, key, order), l, key, order)
 }
 
-// Keys for all m blocks: the key of each offset that starts one into `key`, and these offsets in the order of their keys into `order`.
+// Keys for all m blocks: the key of each offset that starts one into `key`, and these offsets in the order of their keys to the front of `order`.
 pub fn give_all(
     goes: &[u16],
     lowers: &[u16],
@@ -72,7 +79,7 @@ pub fn give_all(
     while b < m {
         let l = wide(lowers[b]);
         let u = wide(uppers[l]);
-        c = give_block(goes, l, u, key, order, c);
+        c = give_block(c, goes, l, u, key, order);
         b += 1;
     }
     c

@@ -72,14 +72,7 @@ fn mark(marks: &mut [u8], next: usize, e: Successors)
 }
 
 // The successors of offset k into their places, and the blocks that it starts.
-fn visit(
-    sheet: &[u8],
-    n: usize,
-    targets: &[u16],
-    k: usize,
-    goes: &mut [u16],
-    marks: &mut [u8],
-)
+fn visit(sheet: &[u8], n: usize, targets: &[u16], k: usize, goes: &mut [u16], marks: &mut [u8])
     requires { ⌜ Given (now sheet) n (now targets) × (k < n) × (2 * n ≤ length (now goes)) × (n < length (now marks)) ⌝ }
     ensures { λ _. ⌜ Visits (codeOf (now (sheet .entry))) k (now (goes .entry)) (now (marks .entry)) (now (goes .exit)) (now (marks .exit)) ⌝ }
 {

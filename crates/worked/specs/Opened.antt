@@ -7,7 +7,7 @@ use Rattle.dataflow_analysis.specs.Worklist.{news, joined, receive, begin, popp
 use Rattle.stackless_bytecode.specs.Kinds.{dstsOf, srcsOf, isExit, isFlagged, isJump, isBranch, fallsThrough, branchDests, labelOf}
 use Rattle.stackless_bytecode.specs.Successors.{labelFrom, labelOffset, ascending, successors}
 use Rattle.sheet.specs.Layout.{blockAt, checkOf, countOf, localsOf, userLocalsOf, parametersOf, refsOf, recordBlocks, decode, instructionAt, codeOf, padded, encode, blockOf, bodyOf, sheetOf}
-use Rattle.sheet.specs.Checks.{lengthOk, blockOk, headingOk, fits, recordOk, placeOk, localsOk, fresh, namesOk, checkCode, checkSheet}
+use Rattle.sheet.specs.Checks.{lengthOk, blockOk, headingOk, fits, recordOk, placeOk, localsOk, fresh, namesOk, checkForm, checkCode, checkSheet}
 use Rattle.stackless_control_flow_graph.specs.Blocks.{targets, starts, lowers, blocksOf, lowerOf, upFrom, upperOf, keyed, keyOf, succKeys, row, flowTable, flowReply}
 use Rattle.stackless_control_flow_graph.specs.Backward.{nextsOf, times, predsFrom, leadsTo}
 use Rattle.livevar_analysis.specs.Live.{assigned, called, execute}
@@ -19,5 +19,5 @@ use Rattle.listing.specs.Lines.{hexDigit, hex, decimalIn, decimal, line, lines,
 use Rattle.worked.specs.Samples.{headingOf, plain, flagged, m1, m2, m3, m4, m5, m6, m4New, m5New, m6New, chain}
 
 unfoldable pub opened : Unit {0}
-unfolding tab keep count total joins gather over sum all any zeros has place firsts firstBad number bytesOf refuse whole reply resultOf left bit holds union minus setOf unions news joined receive begin popped step run dstsOf srcsOf isExit isFlagged isJump isBranch fallsThrough branchDests labelOf labelFrom labelOffset ascending successors blockAt checkOf countOf localsOf userLocalsOf parametersOf refsOf recordBlocks decode instructionAt codeOf padded encode blockOf bodyOf sheetOf lengthOk blockOk headingOk fits recordOk placeOk localsOk fresh namesOk checkCode checkSheet targets starts lowers blocksOf lowerOf upFrom upperOf keyed keyOf succKeys row flowTable flowReply nextsOf times predsFrom leadsTo assigned called execute executeAll restOf outOf analyzeFunction infoOf analyze liveBytes liveReply destroys destroyBlock blockSize isDead isMerged isDropped targetOf highest nextFreeLabel nextFreeAttr lostRefs isLosing labelFor attrFor goesTo standsFor keptCode blockOn addedCode transformCode rewritten writtenReply rewriteReply graphOf nodesOk rank tripleOk triplesBad moved checkAsked checkGraphs parentsIn upward above isInUse incoming manyIn isConditional getParents collectAncestors dyingNodes inUseReply conditionalReply dyingReply hexDigit hex decimalIn decimal line lines printed livelist headingOf plain flagged m1 m2 m3 m4 m5 m6 m4New m5New m6New chain
+unfolding tab keep count total joins gather over sum all any zeros has place firsts firstBad number bytesOf refuse whole reply resultOf left bit holds union minus setOf unions news joined receive begin popped step run dstsOf srcsOf isExit isFlagged isJump isBranch fallsThrough branchDests labelOf labelFrom labelOffset ascending successors blockAt checkOf countOf localsOf userLocalsOf parametersOf refsOf recordBlocks decode instructionAt codeOf padded encode blockOf bodyOf sheetOf lengthOk blockOk headingOk fits recordOk placeOk localsOk fresh namesOk checkForm checkCode checkSheet targets starts lowers blocksOf lowerOf upFrom upperOf keyed keyOf succKeys row flowTable flowReply nextsOf times predsFrom leadsTo assigned called execute executeAll restOf outOf analyzeFunction infoOf analyze liveBytes liveReply destroys destroyBlock blockSize isDead isMerged isDropped targetOf highest nextFreeLabel nextFreeAttr lostRefs isLosing labelFor attrFor goesTo standsFor keptCode blockOn addedCode transformCode rewritten writtenReply rewriteReply graphOf nodesOk rank tripleOk triplesBad moved checkAsked checkGraphs parentsIn upward above isInUse incoming manyIn isConditional getParents collectAncestors dyingNodes inUseReply conditionalReply dyingReply hexDigit hex decimalIn decimal line lines printed livelist headingOf plain flagged m1 m2 m3 m4 m5 m6 m4New m5New m6New chain
 opened = tt

@@ -4,7 +4,7 @@ use borrow.Author.Needs.{needs}
 use mathlib.Core.Path.{_≡_, sym, ap, _∙_}
 use mathlib.Core.List.{List, []}
 use Prim.Native.Nat.{ℕ}
-use Rattle.base.specs.Refusals.{Accepted, Refused, No, Done, Result, resultOf}
+use Rattle.base.specs.Refusals.{Accepted, Refused, Done, resultOf}
 use Rattle.base.specs.ReplyLaws.{reply-refused, reply-done}
 use Rattle.sheet.specs.Checks.{answerOf, checkSheet}
 use Rattle.c_api.specs.Packed.{packed, checkReply}

@@ -7,7 +7,7 @@ use Rattle.base.specs.Bytes.{number}
 use Rattle.base.specs.Sizes.{setBytes}
 use Rattle.sheet.specs.AcceptedLaws.{Bytes}
 use Rattle.listing.specs.Lines.{hex}
-use Rattle.listing.specs.PutLaws.{put-paste, paste-two}
+use Rattle.base.specs.PutLaws.{put-paste, paste-two}
 use Rattle.listing.specs.NumberLaws.{hex-length, hex-high, hex-low}
 use borrow.Author.Needs.{needs}
 use native.Mathlib.Omega.{arith}

@@ -1,7 +1,7 @@
 -- `listing::numbers::put_set` meets its contract. Assumes nothing.
 use mathlib.Core.Path.{_∙_}
 use lib.ListN.{length-set}
-use Rattle.listing.specs.PutLaws.{put-one, put-then, put-length}
+use Rattle.base.specs.PutLaws.{put-one, put-then, put-length}
 use borrow.Author.Needs.{needs}
 use Rattle.listing.proofs.numbers.put_set.Statement.{statement}
 use Rattle.listing.proofs.numbers.put_set.Tie as tie

@@ -5,7 +5,7 @@ use Prim.Native.Nat.{ℕ, _+_, _-_, _≤_}
 use native.Mathlib.Numerals.{add-one}
 use lib.ListN.{length, getD, set, length-set}
 use lib.Seq.{paste, paste-zero, paste-suc}
-use Rattle.listing.specs.PutLaws.{put-paste}
+use Rattle.base.specs.PutLaws.{put-paste}
 use borrow.Author.Needs.{needs}
 use native.Mathlib.Omega.{arith}
 use Rattle.listing.proofs.text.put_bytes.Statement.{statement}

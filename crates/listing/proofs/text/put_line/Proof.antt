@@ -7,9 +7,9 @@ use lib.Seq.{take-all}
 use Rattle.base.specs.Sizes.{setBytes}
 use Rattle.base.specs.Bytes.{number}
 use Rattle.listing.specs.Lines.{hex, decimal, line}
-use Rattle.listing.specs.Text.{infoIn}
+use Rattle.livevar_analysis.specs.Output.{infoIn}
 use Rattle.listing.specs.NumberLaws.{decimal-short, hex-length}
-use Rattle.listing.specs.PutLaws.{Put, put-one, put-then, put-length, put-as}
+use Rattle.base.specs.PutLaws.{Put, put-one, put-then, put-length, put-as}
 use native.Mathlib.Omega.{arith}
 use borrow.Author.Needs.{needs}
 use Rattle.listing.proofs.text.put_line.Statement.{statement}

@@ -5,8 +5,8 @@ use Prim.Native.Nat.{ℕ, _+_, _-_, _*_, _≤_}
 use lib.ListN.{take, drop}
 use Rattle.base.specs.Sizes.{setBytes}
 use Rattle.listing.specs.Lines.{line, lines}
-use Rattle.listing.specs.Text.{infoIn, infosOf}
-use Rattle.listing.specs.PutLaws.{Put, put-none, put-then, put-as, put-length}
+use Rattle.livevar_analysis.specs.Output.{infoIn, infosOf}
+use Rattle.base.specs.PutLaws.{Put, put-none, put-then, put-as, put-length}
 use Rattle.listing.specs.TextLaws.{lines-none, lines-more, text-short}
 use borrow.Author.Needs.{needs}
 use native.Mathlib.Omega.{arith}

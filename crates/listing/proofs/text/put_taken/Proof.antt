@@ -4,7 +4,7 @@ use Prim.Native.Nat.{_+_}
 use lib.ListN.{set}
 use Rattle.listing.specs.Lines.{decimal, takenWord}
 use Rattle.listing.specs.NumberLaws.{decimal-short}
-use Rattle.listing.specs.PutLaws.{Put, put-one, put-then, put-length}
+use Rattle.base.specs.PutLaws.{Put, put-one, put-then, put-length}
 use native.Mathlib.Omega.{arith}
 use borrow.Author.Needs.{needs}
 use Rattle.listing.proofs.text.put_taken.Statement.{statement}

@@ -1,6 +1,6 @@
 -- `listing::text::text_of_live` meets its contract. Assumes nothing.
-use Rattle.listing.specs.Text.{infosOf}
-use Rattle.listing.specs.PutLaws.{put-then, put-as, put-length, put-front}
+use Rattle.livevar_analysis.specs.Output.{infosOf}
+use Rattle.base.specs.PutLaws.{put-then, put-as, put-length, put-front}
 use Rattle.listing.specs.TextLaws.{text-short, text-parts}
 use native.Mathlib.Omega.{arith}
 use borrow.Author.Needs.{needs}

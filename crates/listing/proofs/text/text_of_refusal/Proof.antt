@@ -3,7 +3,7 @@ use Prim.Native.Nat.{_+_}
 use lib.ListN.{set, length-set}
 use Rattle.listing.specs.Text.{refusedText}
 use Rattle.listing.specs.NumberLaws.{decimal-short}
-use Rattle.listing.specs.PutLaws.{Put, put-one, put-then, put-length, put-front}
+use Rattle.base.specs.PutLaws.{Put, put-one, put-then, put-length, put-front}
 use native.Mathlib.Omega.{arith}
 use borrow.Author.Needs.{needs}
 use Rattle.listing.proofs.text.text_of_refusal.Statement.{statement}

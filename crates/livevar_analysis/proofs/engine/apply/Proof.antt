@@ -2,16 +2,9 @@
 use mathlib.Core.Path.{sym, _∙_}
 use mathlib.Core.Logic.{inl, inr, ⊎-elim}
 use Rattle.livevar_analysis.specs.EngineLaws.{rule-kept, rule-done}
-use native.Mathlib.Omega.{arith}
 use borrow.Author.Needs.{needs}
 use Rattle.livevar_analysis.proofs.engine.apply.Statement.{statement}
 use Rattle.livevar_analysis.proofs.engine.apply.Tie as tie
-use Rattle.livevar_analysis.proofs.engine.apply.Reads as reads
-use Rattle.livevar_analysis.proofs.engine.apply.Lts as lts
-use Rattle.dataflow_domains.proofs.LiveVarState.load.Reads as load-reads
-use Rattle.dataflow_domains.proofs.LiveVarState.same.Reads as same-reads
-use Rattle.dataflow_domains.proofs.LiveVarState.union.Reads as union-reads
-use Rattle.dataflow_domains.proofs.LiveVarState.without.Reads as without-reads
 
 load-requires : tie.Need-load-requires
 load-requires c κs = search needs

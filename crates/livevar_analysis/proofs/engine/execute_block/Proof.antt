@@ -1,6 +1,6 @@
 -- `livevar_analysis::engine::execute_block` meets its contract. The loop's invariant: what the instructions that are left make of the set is what all make of m.
 -- Assumes nothing.
-use mathlib.Core.Path.{_≡_, refl, sym, ap, _∙_}
+use mathlib.Core.Path.{_≡_, sym, ap, _∙_}
 use mathlib.Core.List.{List}
 use Prim.Native.Nat.{ℕ, suc, _+_, _-_, _≤_, _<_}
 use native.Mathlib.Numerals.{add-one}
@@ -14,9 +14,6 @@ use borrow.Author.Needs.{needs}
 use native.Mathlib.Omega.{arith}
 use Rattle.livevar_analysis.proofs.engine.execute_block.Statement.{statement}
 use Rattle.livevar_analysis.proofs.engine.execute_block.Tie as tie
-use Rattle.livevar_analysis.proofs.engine.execute_block.Reads as reads
-use Rattle.livevar_analysis.proofs.engine.execute_block.Lts as lts
-use Rattle.livevar_analysis.proofs.engine.apply.Reads as apply-reads
 
 record Held (kills gens assigns : List ℕ) (lower upper m k set : ℕ) : Type 0 where
   within : k ≤ upper + 1

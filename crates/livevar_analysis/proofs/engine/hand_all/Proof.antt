@@ -12,9 +12,6 @@ use borrow.Author.Needs.{needs}
 use native.Mathlib.Omega.{arith}
 use Rattle.livevar_analysis.proofs.engine.hand_all.Statement.{statement}
 use Rattle.livevar_analysis.proofs.engine.hand_all.Tie as tie
-use Rattle.livevar_analysis.proofs.engine.hand_all.Reads as reads
-use Rattle.livevar_analysis.proofs.engine.hand_all.Lts as lts
-use Rattle.dataflow_analysis.proofs.receive_at.Reads as receive-at-reads
 
 -- all blocks, where there are n nodes
 abbrev blocks : ℕ → List ℕ

@@ -5,12 +5,8 @@ use lib.ListN.{length}
 use Rattle.dataflow_domains.specs.Sets.{mask}
 use Rattle.livevar_analysis.specs.EngineLaws.{Handing, hand-none, hand-asks, hand-more, hand-all}
 use borrow.Author.Needs.{needs}
-use native.Mathlib.Omega.{arith}
 use Rattle.livevar_analysis.proofs.engine.hand_on.Statement.{statement}
 use Rattle.livevar_analysis.proofs.engine.hand_on.Tie as tie
-use Rattle.livevar_analysis.proofs.engine.hand_on.Reads as reads
-use Rattle.livevar_analysis.proofs.engine.hand_on.Lts as lts
-use Rattle.dataflow_analysis.proofs.receive_at.Reads as receive-at-reads
 
 abbrev Inv-loop : tie.InvT-loop
 Inv-loop sets₀ met₀ q₀ part m c₀ i₀ sets met q c i = Handing (length met₀) sets₀ met₀ q₀ c₀ part (mask m) sets met q c i

@@ -3,18 +3,11 @@ use mathlib.Core.Path.{_≡_, sym, ap, _∙_}
 use Prim.Native.Nat.{ℕ, _-_, _≤_}
 use lib.ListN.{getD}
 use Rattle.dataflow_domains.specs.Sets.{mask, setAt}
-use Rattle.stackless_control_flow_graph.specs.Blocks.{keyed}
-use Rattle.livevar_analysis.specs.Analysis.{outOf}
-use Rattle.livevar_analysis.specs.EngineLaws.{out-dummy, upper-inside, out-block}
+use Rattle.livevar_analysis.specs.EngineLaws.{out-dummy, out-block}
 use native.Mathlib.Omega.{arith}
 use borrow.Author.Needs.{needs}
 use Rattle.livevar_analysis.proofs.engine.out_of.Statement.{statement}
 use Rattle.livevar_analysis.proofs.engine.out_of.Tie as tie
-use Rattle.livevar_analysis.proofs.engine.out_of.Reads as reads
-use Rattle.livevar_analysis.proofs.engine.out_of.Lts as lts
-use Rattle.dataflow_domains.proofs.LiveVarState.load.Reads as load-reads
-use Rattle.livevar_analysis.proofs.engine.execute_block.Reads as execute-block-reads
-use Rattle.livevar_analysis.proofs.engine.wide.Reads as wide-reads
 
 wide-requires : tie.Need-wide-requires
 wide-requires c κs = search needs
@@ -61,9 +54,7 @@ returns-2 : tie.Need-returns-2
 returns-2 c code sound ruled bounds inside =
     let a = c .before .before .before .before .before .before .before .before .before .before .before .before .before .before .args in
     let own : mask (c .before .before .before .before .before .before .load .result) ≡ setAt (a .sets .now) (a .k) = c .before .before .before .before .before .before .load .ensures ∙ ap (setAt (a .sets .now)) (c .before .before .before .before .before .before .before .wide .ensures) in
-    c .execute-block .ensures code ruled (rw (upper-is (c .before)) (upper-inside code sound _ _ bounds (a .k) (block (c .before .before .before .before .before)) inside))
-    ∙ out-block code sound _ _ bounds (a .k) (block (c .before .before .before .before .before)) inside _ _ _ (lower-is (c .before)) (upper-is (c .before))
-    ∙ ap (outOf code (keyed code) (a .k)) own
+    out-block code sound _ _ bounds (a .k) (block (c .before .before .before .before .before)) inside _ _ _ _ _ (lower-is (c .before)) (upper-is (c .before)) own (c .execute-block .ensures code ruled)
 
 pub out-of-spec : {M : Type 1} → statement M
 out-of-spec =

@@ -13,12 +13,6 @@ use native.Mathlib.Omega.{arith}
 use borrow.Author.Needs.{needs}
 use Rattle.livevar_analysis.proofs.engine.step.Statement.{statement}
 use Rattle.livevar_analysis.proofs.engine.step.Tie as tie
-use Rattle.livevar_analysis.proofs.engine.step.Reads as reads
-use Rattle.livevar_analysis.proofs.engine.step.Lts as lts
-use Rattle.livevar_analysis.proofs.engine.hand_all.Reads as hand-all-reads
-use Rattle.livevar_analysis.proofs.engine.hand_on.Reads as hand-on-reads
-use Rattle.livevar_analysis.proofs.engine.out_of.Reads as out-of-reads
-use Rattle.livevar_analysis.proofs.engine.wide.Reads as wide-reads
 
 out-of-requires : tie.Need-out-of-requires
 out-of-requires c κs = step-out _ _ _ _ _ _ _ _ _ _ _ _ (c .before .before .before .before .before .before .before .before .before .before .before .pre)

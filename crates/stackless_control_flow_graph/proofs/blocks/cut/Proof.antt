@@ -45,12 +45,21 @@ unfolding blocksOf
 counted code xs r e is = e ∙ ap length is
 
 returns : tie.Need-returns
-returns c = 
+returns c =
     let size = given-size (c .before .before .before .before .before .before .before .before .before .before .before .before .before .before .before .before .before .before .before .before .before .before .before .pre .0) in
     let v = c .before .before .before .before .before .before .before .before .before .before .before .before .before .before .visit-all .ensures in
     let l = c .before .before .list-lowers .ensures in
-    let is : markedIn _ (c .before .before .before .before .before .before .before .before .before .before .before .before .before .before .before .before .before .before .before .before .before .before .before .args .n) ≡ lowers (codeOf (c .before .before .before .before .before .before .before .before .before .before .before .before .before .before .before .before .before .before .before .before .before .before .before .args .sheet .now)) = ap (markedIn _) (sym size) ∙ marked-lowers _ _ (v .1) in
-    record { size = size; going = v .0; marked = v .1; front = l .0 ∙ is; count = counted _ _ _ (l .1) is; upper = c .before .before .before .before .before .before .before .find-uppers .ensures _ size (v .1) }
+    let is : markedIn _ (c .before .before .before .before .before .before .before .before .before .before .before .before .before .before .before .before .before .before .before .before .before .before .before .args .n) ≡ lowers (codeOf (c .before .before .before .before .before .before .before .before .before .before .before .before .before .before .before .before .before .before .before .before .before .before .before .args .sheet .now)) = ap (markedIn _) (sym size) ∙ marked-lowers _ _ (v .1) in (
+      record {
+        going = rw size (v .0);
+        places = omega (arith, size, c .before .before .before .before .before .before .before .before .before .before .before .before .before .before .visit-all .kept .1 .1 .1 .0);
+        front = l .0 ∙ is;
+        count = counted _ _ _ (l .1) is;
+        upper = c .before .before .before .before .before .before .before .find-uppers .ensures _ size (v .1);
+        offsets = omega (arith, size, c .before .before .before .before .before .before .before .find-uppers .kept .1 .1 .0);
+      },
+      v .1,
+    )
 
 pub cut-spec : {M : Type 1} → statement M
 cut-spec =

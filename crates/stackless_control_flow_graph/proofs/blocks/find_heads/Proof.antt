@@ -51,17 +51,20 @@ loop-less : tie.Need-loop-less Inv-loop μ-loop
 loop-less c = search needs
 
 loop-again : tie.Need-loop-again Inv-loop μ-loop
-loop-again c = 
+loop-again c =
     let l = c .before .before .before .before .loop in
-    let i = l .inv in
-    (search needs, head-most (c .before), rw length-set (i .2),
-    λ code size m. rw (c .narrow .ensures) (heads-more code _ _ _ _ _ m (omega arith) (omega (arith, i .2)) (c .before .pick .ensures) (i .3 code size m)))
+    let i = l .inv in (
+      search needs,
+      head-most (c .before),
+      rw length-set (i .2),
+      λ code size m. rw (c .narrow .ensures) (heads-more code _ _ _ _ _ m (omega arith) (omega (arith, i .2)) (c .before .pick .ensures) (i .3 code size m)),
+    )
 
 same-length : tie.Need-same-length Inv-loop μ-loop
 same-length c = c .before .loop .inv .2
 
 returns : tie.Need-returns Inv-loop μ-loop
-returns c = 
+returns c =
     let l = c .before .loop in
     let z : l .k ≡ c .before .before .before .before .args .n = omega arith in
     λ code size m. heads-end code (l .heads) (c .before .before .before .before .args .n) (l .head) size (rw z at (l .inv .3 code size m))

@@ -49,18 +49,21 @@ loop-less : tie.Need-loop-less Inv-loop μ-loop
 loop-less c = search needs
 
 loop-again : tie.Need-loop-again Inv-loop μ-loop
-loop-again c = 
+loop-again c =
     let l = c .before .before .before .before .loop in
     let i = l .inv in
-    let mark = getD (c .before .before .before .before .before .before .before .args .marks .now) (l .k - 1) 0 in
-    (search needs, between mark (l .k - 1) (l .end) (c .pick .result) (c .pick .ensures) (record { low = omega arith; high = omega arith }) (record { low = omega (arith, i .1 .low); high = i .1 .high }), rw length-set (i .2),
-    λ code size m. uppers-turn code _ _ _ _ _ _ m (omega arith) (omega arith) (omega (arith, i .2)) (c .before .before .narrow .ensures) (c .pick .ensures) (i .3 code size m))
+    let mark = getD (c .before .before .before .before .before .before .before .args .marks .now) (l .k - 1) 0 in (
+      search needs,
+      between mark (l .k - 1) (l .end) (c .pick .result) (c .pick .ensures) (record { low = omega arith; high = omega arith }) (record { low = omega (arith, i .1 .low); high = i .1 .high }),
+      rw length-set (i .2),
+      λ code size m. uppers-turn code _ _ _ _ _ _ m (omega arith) (omega arith) (omega (arith, i .2)) (c .before .before .narrow .ensures) (c .pick .ensures) (i .3 code size m),
+    )
 
 same-length : tie.Need-same-length Inv-loop μ-loop
 same-length c = c .before .loop .inv .2
 
 returns : tie.Need-returns Inv-loop μ-loop
-returns c = 
+returns c =
     let l = c .before .loop in
     let z : l .k ≡ 0 = omega arith in
     λ code size m. uppers-end code (l .uppers) (l .end) (rw z at (l .inv .3 code size m))

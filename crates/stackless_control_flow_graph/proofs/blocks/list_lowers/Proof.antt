@@ -35,7 +35,7 @@ loop-less : tie.Need-loop-less Inv-loop μ-loop
 loop-less c = search needs
 
 loop-again : tie.Need-loop-again Inv-loop μ-loop
-loop-again c = 
+loop-again c =
     let l = c .before .before .list-lower in
     let i = c .before .before .before .before .before .before .loop .inv in
     let marks = c .before .before .before .before .before .before .before .before .before .args .marks .now in
@@ -46,7 +46,7 @@ same-length : tie.Need-same-length Inv-loop μ-loop
 same-length c = c .before .loop .inv .1
 
 returns : tie.Need-returns Inv-loop μ-loop
-returns c = 
+returns c =
     let n : c .before .loop .k ≡ c .before .before .before .before .args .n = omega arith in
     let i = c .before .loop .inv in
     let size : length (take (c .before .loop .c) (c .before .loop .lowers)) ≡ c .before .loop .c = length-take-le (c .before .loop .c) (c .before .loop .lowers) (omega (arith, i .1)) in

@@ -49,13 +49,17 @@ wide-requires-2 : tie.Need-wide-requires-2 Inv-loop μ-loop
 wide-requires-2 c κs = search needs
 
 give-block-requires : tie.Need-give-block-requires Inv-loop μ-loop
-give-block-requires c κs = 
+give-block-requires c κs =
     let i = c .before .before .before .before .before .before .before .loop .inv in
     let n = length (c .before .before .before .before .before .before .before .before .before .before .before .before .before .args .key .now) in
     let b = c .before .before .before .before .before .before .before .loop .b in
-    let r = c .before .before .before .before .before .before .before .before .before .before .before .before .before .pre .0 in
-    (i .3 .keys, rw (i .1) (near n (c .before .before .before .before .before .before .before .before .before .before .before .before .before .args .goes .now) (c .before .before .before .before .wide .result) (c .before .before .wide2 .result) (omega (arith, lower-is (c .before .before .before .before), r .lower b (search needs))) (rw (upper-is (c .before .before)) (r .next b (search needs)))),
-    omega (arith, upper-is (c .before .before), r .places b (search needs)), omega (arith, i .1, i .2), omega (arith, i .1))
+    let r = c .before .before .before .before .before .before .before .before .before .before .before .before .before .pre .0 in (
+      i .3 .keys,
+      rw (i .1) (near n (c .before .before .before .before .before .before .before .before .before .before .before .before .before .args .goes .now) (c .before .before .before .before .wide .result) (c .before .before .wide2 .result) (omega (arith, lower-is (c .before .before .before .before), r .lower b (search needs))) (rw (upper-is (c .before .before)) (r .next b (search needs)))),
+      omega (arith, upper-is (c .before .before), r .places b (search needs)),
+      omega (arith, i .1, i .2),
+      omega (arith, i .1),
+    )
 
 add-b : tie.Need-add-b Inv-loop μ-loop
 add-b c = search needs
@@ -64,12 +68,15 @@ loop-less : tie.Need-loop-less Inv-loop μ-loop
 loop-less c = search needs
 
 loop-again : tie.Need-loop-again Inv-loop μ-loop
-loop-again c = 
+loop-again c =
     let g = c .before .before .before .before .give-block in
     let i = c .before .before .before .before .before .before .before .before .before .before .before .before .loop .inv in
-    let a = c .before .before .before .before .before .before .before .before .before .before .before .before .before .before .before .before .before .before .args in
-    (search needs, g .kept .1 .1 .1 .0 ∙ i .1, g .kept .1 .1 .1 .1 .0 ∙ i .2,
-    keys-more (a .goes .now) (a .uppers .now) (a .lowers .now) (c .before .before .before .before .before .before .before .before .before .before .before .before .loop .b) (c .before .before .before .before .before .before .before .before .before .wide .result) (c .before .before .before .before .before .before .before .wide2 .result) (omega (arith, c .before .before .before .before .before .before .before .before .before .before .before .before .before .before .before .before .before .before .pre .0 .blocks)) (c .before .before .before .before .before .before .before .before .before .wide .ensures) (c .before .before .before .before .before .before .before .wide2 .ensures) (i .3) (g .ensures))
+    let a = c .before .before .before .before .before .before .before .before .before .before .before .before .before .before .before .before .before .before .args in (
+      search needs,
+      g .kept .1 .1 .1 .1 .0 ∙ i .1,
+      g .kept .1 .1 .1 .1 .1 .0 ∙ i .2,
+      keys-more (a .goes .now) (a .uppers .now) (a .lowers .now) (c .before .before .before .before .before .before .before .before .before .before .before .before .loop .b) (c .before .before .before .before .before .before .before .before .before .wide .result) (c .before .before .before .before .before .before .before .wide2 .result) (omega (arith, c .before .before .before .before .before .before .before .before .before .before .before .before .before .before .before .before .before .before .pre .0 .blocks)) (c .before .before .before .before .before .before .before .before .before .wide .ensures) (c .before .before .before .before .before .before .before .wide2 .ensures) (i .3) (g .ensures),
+    )
 
 same-length : tie.Need-same-length Inv-loop μ-loop
 same-length c = c .before .loop .inv .1
@@ -78,7 +85,7 @@ same-length-2 : tie.Need-same-length-2 Inv-loop μ-loop
 same-length-2 c = c .before .loop .inv .2
 
 returns : tie.Need-returns Inv-loop μ-loop
-returns c = 
+returns c =
     let e : c .before .loop .b ≡ c .before .before .before .before .before .before .before .args .m = omega arith in
     rw (← e) (c .before .loop .inv .3)
 

@@ -66,7 +66,7 @@ succs-are c =
     next-is (c .before .before .before .before .before .before .before .before .before .pre .0) (c .before .before .before .before .before .before .before .before .before .args .k) (c .before .before .before .before .before .before .before .before .before .pre .1) (c .before .before .before .before .instruction-at .result) (c .before .before .before .before .instruction-at .ensures) (below (c .before .before .before .before)) (c .by-kind .result) (c .before .narrow .result) (c .before .narrow .ensures) (c .by-kind .ensures)
 
 mark-requires : tie.Need-mark-requires
-mark-requires c κs = 
+mark-requires c κs =
     let w = next-within (c .before .before .before .before .before .before .before .before .before .before .before .before .before .before .before .before .pre .0) (c .before .before .before .before .before .before .before .before .before .before .before .before .before .before .before .before .args .k) (c .before .before .before .before .before .before .before .before .before .before .before .before .before .before .before .before .pre .1) (c .before .before .before .before .before .before .before .before .before .before .before .instruction-at .result) (c .before .before .before .before .before .before .before .before .before .before .before .instruction-at .ensures) (below (c .before .before .before .before .before .before .before .before .before .before .before)) (c .before .before .before .before .before .before .before .by-kind .result) (succs-are (c .before .before .before .before .before .before .before)) in
     record { each = λ x i. ⊎-elim (λ e. omega arith) (λ t. omega (arith, w .each x t)) (List·Memᴰ·cases-cons i) }
 
@@ -77,7 +77,7 @@ same-length-2 : tie.Need-same-length-2
 same-length-2 c = search needs
 
 returns : tie.Need-returns
-returns c = 
+returns c =
     rw (c .before .before .before .before .before .before .before .before .put-two .ensures, c .before .before .mark .ensures)
     (visit-branch (c .before .before .before .before .before .before .before .before .before .before .before .before .before .before .before .before .before .before .before .pre .0) (c .before .before .before .before .before .before .before .before .before .before .before .before .before .before .before .before .before .before .before .args .k) (c .before .before .before .before .before .before .before .before .before .before .before .before .before .before .before .before .before .before .before .pre .1) (c .before .before .before .before .before .before .before .before .before .before .before .before .before .before .instruction-at .result) (c .before .before .before .before .before .before .before .before .before .before .before .before .before .before .instruction-at .ensures) (below (c .before .before .before .before .before .before .before .before .before .before .before .before .before .before)) _ _ (c .before .before .before .before .before .before .before .before .before .before .by-kind .result) (search needs) (search needs) (succs-are (c .before .before .before .before .before .before .before .before .before .before))
     (sym (c .before .before .before .before .before .is-branch .ensures) ∙ c .before .before .before .before .if1 .taken))
@@ -86,7 +86,7 @@ same-length-3 : tie.Need-same-length-3
 same-length-3 c = search needs
 
 returns-2 : tie.Need-returns-2
-returns-2 c = 
+returns-2 c =
     rw (c .before .before .before .before .put-two .ensures)
     (visit-quiet (c .before .before .before .before .before .before .before .before .before .before .before .before .before .before .before .pre .0) (c .before .before .before .before .before .before .before .before .before .before .before .before .before .before .before .args .k) (c .before .before .before .before .before .before .before .before .before .before .before .before .before .before .before .pre .1) (c .before .before .before .before .before .before .before .before .before .before .instruction-at .result) (c .before .before .before .before .before .before .before .before .before .before .instruction-at .ensures) (below (c .before .before .before .before .before .before .before .before .before .before)) _ _ (c .before .before .before .before .before .before .by-kind .result) (search needs) (succs-are (c .before .before .before .before .before .before))
     (sym (c .before .is-branch .ensures) ∙ c .if1 .left))

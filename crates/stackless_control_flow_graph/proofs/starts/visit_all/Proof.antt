@@ -36,7 +36,7 @@ loop-less : tie.Need-loop-less Inv-loop μ-loop
 loop-less c = search needs
 
 loop-again : tie.Need-loop-again Inv-loop μ-loop
-loop-again c = 
+loop-again c =
     let v = c .before .before .before .before .visit in
     let i = c .before .before .before .before .before .before .before .before .loop .inv in
     (search needs, v .kept .1 .1 .1 .1 .0 ∙ i .1, v .kept .1 .1 .1 .1 .1 .0 ∙ i .2, v .ensures .going (i .3), v .ensures .marking (i .4))
@@ -48,7 +48,7 @@ same-length-2 : tie.Need-same-length-2 Inv-loop μ-loop
 same-length-2 c = c .before .loop .inv .2 ∙ length-set (c .before .before .before .before .before .before .args .marks .now) 0 1
 
 returns : tie.Need-returns Inv-loop μ-loop
-returns c = 
+returns c =
     let n : c .before .loop .k ≡ c .before .before .before .before .before .before .args .n = omega arith in
     let size = given-size (c .before .before .before .before .before .before .pre .0) in
     (rw (← n) (c .before .loop .inv .3), marks-end _ _ (rw (size, ← n) (c .before .loop .inv .4)))

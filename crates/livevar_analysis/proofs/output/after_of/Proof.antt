@@ -1,0 +1,49 @@
+-- `livevar_analysis::output::after_of` meets its contract. Assumes nothing.
+use mathlib.Core.Path.{sym, ap, _∙_}
+use mathlib.Core.Bool.{Bool, cond}
+use lib.ListN.{getD}
+use Rattle.dataflow_domains.specs.Sets.{mask, setAt}
+use Rattle.livevar_analysis.specs.Output.{afterBy}
+use native.Mathlib.Omega.{arith}
+use borrow.Author.Needs.{needs}
+use Rattle.livevar_analysis.proofs.output.after_of.Statement.{statement}
+use Rattle.livevar_analysis.proofs.output.after_of.Tie as tie
+
+ends-requires : tie.Need-ends-requires
+ends-requires c κs = search needs
+
+mul-load : tie.Need-mul-load
+mul-load c = search needs
+
+shared-slice-read-load : tie.Need-shared-slice-read-load
+shared-slice-read-load c = search needs
+
+cast-load : tie.Need-cast-load
+cast-load c = omega (arith, c .shared-slice-known4 .given (c .before .before .before .before .before .before .args .k))
+
+load-requires : tie.Need-load-requires
+load-requires c κs = c .before .before .before .before .before .before .pre .0 .sets-fit (c .before .before .before .before .before .before .args .k) (c .before .before .before .before .before .before .pre .1)
+
+returns : tie.Need-returns
+unfolding afterBy
+returns c =
+    let s = c .before .before .before .before .before .before .before .args in
+    c .load .ensures ∙ sym (ap (λ (b : Bool). cond b (setAt (s .sets .now) (getD (s .keys .now) (s .k) 0)) (mask (s .m))) (sym (c .before .before .before .ends .ensures) ∙ c .before .before .if1 .taken))
+
+returns-2 : tie.Need-returns-2
+unfolding afterBy
+returns-2 c =
+    let s = c .before .before .before .before .before .args in
+    sym (ap (λ (b : Bool). cond b (setAt (s .sets .now) (getD (s .keys .now) (s .k) 0)) (mask (s .m))) (sym (c .before .ends .ensures) ∙ c .if1 .left))
+
+pub after-of-spec : {M : Type 1} → statement M
+after-of-spec =
+    tie.close
+    (tie.spec
+    ends-requires
+    mul-load
+    shared-slice-read-load
+    cast-load
+    load-requires
+    returns
+    returns-2)

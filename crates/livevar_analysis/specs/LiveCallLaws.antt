@@ -1,0 +1,78 @@
+-- The bytes of an accepted sheet's live sets have term 3. Assumes nothing.
+use mathlib.Core.Path.{_≡_, refl, sym, ap, ap₂, _∙_, subst}
+use mathlib.Core.Bool.{true, false, true≢false}
+use mathlib.Core.List.{List, [], _∷_, _++_, map, List·Memᴰ, List·Memᴰ·head, List·Memᴰ·tail}
+use Prim.Native.Nat.{ℕ, suc, _+_, _-_, _*_, _<_}
+use native.Mathlib.Nat.{zero-add}
+use native.Mathlib.Omega.{arith}
+use lib.ListN.{getD, length}
+use Rattle.base.specs.Sizes.{setBytes}
+use Rattle.base.specs.Bytes.{part}
+use Rattle.base.specs.Refusals.{Accepted}
+use Rattle.base.specs.ListLaws.{by-eq, getD-tab}
+use Rattle.dataflow_domains.specs.Mask.{bit, unions, Sub}
+use Rattle.dataflow_domains.specs.MaskLaws.{sub-at}
+use Rattle.stackless_bytecode.specs.declared.Bytecode.{Bytecode}
+use Rattle.stackless_bytecode.specs.Kinds.{at, fallsThrough, branchDests}
+use Rattle.stackless_bytecode.specs.Successors.{labelOffset, successors}
+use Rattle.stackless_bytecode.specs.SuccessorLaws.{Sound, Next, named, on, in-succs}
+use Rattle.sheet.specs.Layout.{codeOf, localsOf}
+use Rattle.sheet.specs.Checks.{checkSheet}
+use Rattle.sheet.specs.CheckLaws.{code-sound}
+use Rattle.livevar_analysis.specs.Live.{execute, Obeys}
+use Rattle.livevar_analysis.specs.Analysis.{LiveVarInfo, noInfo, Analyzed, analyze, liveBytes}
+use Rattle.livevar_analysis.specs.Term3.{Term3, term3}
+use Rattle.livevar_analysis.specs.Output.{infoIn, infosOf}
+use Rattle.livevar_analysis.specs.OutputLaws.{live-read}
+use Rattle.livevar_analysis.specs.LiveCall.{beforeAt, afterAt, LeastLive}
+
+-- ---- sets that agree at every offset obey alike
+
+-- a successor is an offset of the code
+succ-inside : (code : List Bytecode) → Sound code → (k o : ℕ) → k < length code → List·Memᴰ o (successors code k) → o < length code
+succ-inside code sound k o h i = go (in-succs code k o i)
+  where
+    go : Next code k o → o < length code
+    go (named l j e) = subst (λ (x : ℕ). x < length code) (sym e) (sound .named k l h j)
+    go (on f e) =
+        by-eq (suc k) (length code)
+        (λ q. let last : k ≡ length code - 1 = omega arith in absurd (true≢false (sym f ∙ ap (λ (x : ℕ). fallsThrough (at code x)) last ∙ sound .closed)))
+        (λ g. omega arith)
+
+map-same : (b c : ℕ → ℕ) (xs : List ℕ) → ((o : ℕ) → List·Memᴰ o xs → b o ≡ c o) → map b xs ≡ map c xs
+map-same b c [] h = refl
+map-same b c (x ∷ xs) h = ap₂ (λ (y : ℕ) (ys : List ℕ). y ∷ ys) (h x (List·Memᴰ·head refl)) (map-same b c xs (λ o i. h o (List·Memᴰ·tail i)))
+
+obeys-same : (code : List Bytecode) → Sound code → (b a c d : ℕ → ℕ) → ((k : ℕ) → k < length code → b k ≡ c k) → ((k : ℕ) → k < length code → a k ≡ d k) → Obeys code c d → Obeys code b a
+obeys-same code sound b a c d eb ea ob = record {
+  after = λ k h. ea k h ∙ ob .after k h ∙ ap unions (sym (map-same b c (successors code k) (λ o i. eb o (succ-inside code sound k o h i))));
+  before = λ k h. eb k h ∙ ob .before k h ∙ ap (execute (at code k)) (sym (ea k h));
+}
+
+-- ---- the bytes of an accepted sheet
+
+module _ (s : List ℕ) (e : checkSheet s ≡ Accepted) (z : List ℕ) where
+  abbrev info : List LiveVarInfo
+  info = analyze (codeOf s) (localsOf s) .info
+
+  abbrev out : List ℕ
+  out = liveBytes info ++ z
+
+  read : (k : ℕ) → k < length (codeOf s) → infoIn (part out (2 * setBytes * k) (2 * setBytes)) ≡ getD info k noInfo
+  unfolding infosOf
+  read k h =
+      sym (getD-tab (length (codeOf s)) 0 k (λ j. infoIn (part out (2 * setBytes * j) (2 * setBytes))) noInfo h ∙ ap (λ (j : ℕ). infoIn (part out (2 * setBytes * j) (2 * setBytes))) (zero-add k))
+      ∙ ap (λ (is : List LiveVarInfo). getD is k noInfo) (live-read s e (length (codeOf s)) z refl)
+
+  before-is : (k : ℕ) → k < length (codeOf s) → beforeAt out k ≡ getD info k noInfo .before
+  before-is k h = ap (λ (x : LiveVarInfo). x .before) (read k h)
+
+  after-is : (k : ℕ) → k < length (codeOf s) → afterAt out k ≡ getD info k noInfo .after
+  after-is k h = ap (λ (x : LiveVarInfo). x .after) (read k h)
+
+  pub least-live : LeastLive s (liveBytes (analyze (codeOf s) (localsOf s) .info) ++ z)
+  least-live = record {
+    obeys = obeys-same (codeOf s) (code-sound s e) (beforeAt out) (afterAt out) (λ k. getD info k noInfo .before) (λ k. getD info k noInfo .after) before-is after-is (term3 s e .obeys);
+    before = λ b a ob k i h x. sub-at (term3 s e .least b a ob k h .0) i (sym (ap (λ (m : ℕ). bit m i) (before-is k h)) ∙ x);
+    after = λ b a ob k i h x. sub-at (term3 s e .least b a ob k h .1) i (sym (ap (λ (m : ℕ). bit m i) (after-is k h)) ∙ x);
+  }
