@@ -139,13 +139,8 @@ module _ (here next : Given) (lent : List ℕ) where
       → Came (over (collectAncestors (here .count) (triplesOf (here .numbers)) used) (record { mask = 0; listed = [] }) (members (here .count) from)) m k lent new
       → (_≡_ {A = Result} (record { number = 0; value = k }) (resultOf (dyingReply here next (length lent)))) × (new ≡ left (dyingReply here next (length lent)) lent)
   unfolding dyingReply reply resultOf left
-<<<<<<< HEAD
   dying-done e h u t f v =
       let same = dying-same u t f in (
-=======
-  dying-done e h u f v =
-      let same = dying-same u f in (
->>>>>>> origin/main
         rw (← e, le-ltb (length lent) (here .count) h) (ap (λ (n : ℕ). record { number = 0; value = n }) (v .count ∙ ap length same)),
         rw (← e, le-ltb (length lent) (here .count) h) (v .wrote ∙ ap (λ (l : List ℕ). l ++ drop (length l) lent) same),
       )
