@@ -1,4 +1,4 @@
--- The visits of the definition: how they go on, and that what is seen grows, each node once. Assumes nothing.
+-- The visits of the definition: the parents of a node, one visit, and that what is seen only grows. Assumes nothing.
 use mathlib.Core.Path.{_≡_, refl, sym, ap, _∙_, subst}
 use mathlib.Core.Logic.{⊎-elim}
 use mathlib.Core.Bool.{Bool, true, false, cond, _||_}

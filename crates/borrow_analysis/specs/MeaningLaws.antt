@@ -19,7 +19,7 @@ use Rattle.dataflow_domains.specs.MemberLaws.{in-members, members-in}
 use Rattle.dataflow_domains.specs.MaskLaws.{bit-below, bit-empty, holds-true, true-holds, ones-zero}
 use Rattle.borrow_analysis.specs.Graph.{Triple, Graph, Given, tripleAt, graphOf, checkAsked, checkGraphs}
 use Rattle.borrow_analysis.specs.Borrows.{above, incoming, manyIn, isInUse, isConditional, Seen, collectAncestors, dyingNodes}
-use Rattle.borrow_analysis.specs.Meaning.{same, InUse, Conditional, Dies, live, parent, DyingList, Decides}
+use Rattle.borrow_analysis.specs.Meaning.{Descends, same, down, InUse, Conditional, Dies, live, parent, DyingList, Decides}
 use Rattle.borrow_analysis.specs.BorrowLaws.{above-reaches, reaches-above, in-use-reaches, reaches-in-use}
 use Rattle.borrow_analysis.specs.AcceptedLaws.{Fine, accepted-asked, accepted-graphs}
 use Rattle.borrow_analysis.specs.TripleLaws.{many-bits, many-out, many-lt, incoming-out}
@@ -54,6 +54,14 @@ in-use-decides g w n = record {
 -- the answer is yes exactly where the node or a descendant of it is live
 pub in-use-means : (g : Given) (node : ℕ) → checkAsked g node ≡ Accepted → Decides (isInUse (graphOf g) node) (InUse (graphOf g) node)
 in-use-means g node e = in-use-decides g (accepted-asked g node e .0) node
+
+-- a node in use is below the count: one at or above the next graph's count is not in use there
+pub in-use-below : (g : Given) → Fine g → (n : ℕ) → InUse (graphOf g) n → n < graphOf g .count
+in-use-below g w n r = go (r .path) (r .has)
+  where
+    go : {n x : ℕ} → Descends (graphOf g .triples) n x → bit (graphOf g .live) x ≡ 1 → n < graphOf g .count
+    go (same {n = n}) h = bit-below (graphOf g .live) n (graphOf g .count) (live-lt g w) h
+    go (down t i p) h = parents-lt g w t i
 
 -- ---- conditional
 

@@ -1,4 +1,4 @@
--- What the proofs of the visits in lent bytes cite. Assumes nothing.
+-- The visits in lent bytes: room for a node more, one visit, the loop over the triples, and the walk of the nodes to start from. Assumes nothing.
 use mathlib.Core.Path.{_≡_, refl, sym, ap, ap₂, _∙_, subst}
 use mathlib.Core.Bool.{false, _||_}
 use mathlib.Core.List.{List, [], _∷_, _++_, List·Memᴰ}
@@ -42,14 +42,6 @@ room-more n w h e = omega (arith, room-fits (room-list n w h e))
 room-fair : {c m k : ℕ} (out : List ℕ) → c ≤ length out → Room c m k → Fair c (seenOf m k out)
 room-fair {c} {m} {k} out h w = record { each = length-take-le k out (omega (arith, room-fits w)) ∙ w .ones; small = w .small }
 
--- ---- nothing is visited
-
-pub came-same : {c m k : ℕ} (st : Seen) (out : List ℕ) → c ≤ length out → Room c m k → seenOf m k out ≡ st → Came st m k out out
-came-same {c} {m} {k} st out h w e =
-    let size : length (take k out) ≡ k = length-take-le k out (omega (arith, room-fits w)) in
-    subst (λ (s : Seen). Came s m k out out) e
-    (record { set = refl; count = sym size; wrote = sym (ap (λ (j : ℕ). take k out ++ drop j out) size ∙ take-append-drop k out) })
-
 -- ---- a node is listed
 
 pub seen-list : (m k n : ℕ) (out : List ℕ) → k < length out → seenOf (union m (2 ^ n)) (k + 1) (set out k n) ≡ listing (seenOf m k out) n
@@ -67,6 +59,7 @@ module _ {m k n m′ k′ : ℕ} (out out′ : List ℕ) (room : Room (length ou
 
 -- ---- the visits of the parents: from k₀ nodes in `old` to k in `out`, and the rest as it was
 
+-- c is the number of nodes, for each of which there is room
 pub record Going (c k₀ : ℕ) (old : List ℕ) (m k : ℕ) (out : List ℕ) : Type 0 where
   pub room : Room c m k
   pub wide : c ≤ length old
@@ -113,6 +106,10 @@ going-all {c} {k₀} {m} {k} {old} {out} st w e =
     let size : length (take k out) ≡ k = length-take-le k out (omega (arith, w .long, w .wide, room-fits (w .room))) in
     subst (λ (x : Seen). Came x m k old out) e
     (record { set = refl; count = sym size; wrote = sym (ap (λ (i : ℕ). take k out ++ drop i old) size ∙ ap (λ (l : List ℕ). take k out ++ l) (sym (w .rest)) ∙ take-append-drop k out) })
+
+-- nothing is visited
+pub came-same : {c m k : ℕ} (st : Seen) (out : List ℕ) → c ≤ length out → Room c m k → seenOf m k out ≡ st → Came st m k out out
+came-same st out h w e = going-all st (going-none out w h) e
 
 -- what a store at one of the listed places overwrote does not matter
 came-before : {m k : ℕ} {out : List ℕ} (st : Seen) (before : List ℕ) (j n : ℕ) → Came st m k (set before j n) out → j < k → Came st m k before out
