@@ -2,13 +2,14 @@
 use mathlib.Core.Path.{_≡_, refl, sym, ap, ap₂, _∙_, subst}
 use mathlib.Core.Bool.{Bool, true, cond}
 use mathlib.Core.List.{List, [], _∷_, _++_, map, List·Memᴰ}
-use Prim.Native.Nat.{ℕ, _+_, _*_, _≤_, _<_, zero-le}
+use Prim.Native.Nat.{ℕ, zero, suc, _+_, _*_, _≤_, _<_, zero-le}
 use native.Mathlib.Nat.{le-antisymm}
 use native.Mathlib.Omega.{arith}
 use lib.ListN.{getD, length, take, replicate, length-take}
 use lib.Seq.{getD-take}
-use Rattle.base.specs.Lists.{keep, gather, firsts}
-use Rattle.base.specs.ListLaws.{keep-in, in-keep, getD-in, in-has, Distinct}
+use Rattle.base.specs.Lists.{keep, gather, has, firsts}
+use Rattle.base.specs.ListLaws.{by-test, keep-in, in-keep, getD-in, has-in, in-has, place-lt, Distinct}
+use Rattle.base.specs.JoinLaws.{by-lt}
 use Rattle.stackless_bytecode.specs.declared.Bytecode.{Bytecode}
 use Rattle.stackless_bytecode.specs.Kinds.{at, isExit}
 use Rattle.stackless_bytecode.specs.Successors.{successors}
@@ -19,7 +20,7 @@ use Rattle.stackless_control_flow_graph.specs.BlockLaws.{Start, succs-st
 use Rattle.stackless_control_flow_graph.specs.Arrays.{succsIn, Within, Cut, keyIn, Keys, Gives, takers, Ready, Numbered, succKeysIn, rowFrom, rowIn}
 use Rattle.stackless_control_flow_graph.specs.MoreLists.{gather-agree, map-agree, shorter, keep-distinct}
 use Rattle.stackless_control_flow_graph.specs.StartLaws.{succs-within}
-use Rattle.stackless_control_flow_graph.specs.KeyLaws.{key-some}
+use Rattle.stackless_control_flow_graph.specs.KeyLaws.{key-none, key-some}
 
 -- ---- blocks
 
@@ -64,14 +65,18 @@ module _ (code : List Bytecode) (sound : Sound code) (m : ℕ) (goes ls uppers :
   pub block-next : (o : ℕ) → Start code o → succsIn goes (getD uppers o 0) ≡ successors code (upperOf code o)
   block-next o s = ap (succsIn goes) (block-upper o s) ∙ cut .going .each (upperOf code o) (upper-lt code o (s .inside))
 
+  next-within : (n : ℕ) → length code ≤ n → (o : ℕ) → Start code o → Within n (succsIn goes (getD uppers o 0))
+  next-within n room o s = record {
+    each = λ x i. omega (arith, succs-within code sound (upperOf code o) (upper-lt code o (s .inside)) .each x (subst (λ (l : List ℕ). List·Memᴰ x l) (block-next o s) i));
+  }
+
   pub cut-ready : (n : ℕ) → length code ≤ n → Ready goes ls uppers m n
   cut-ready n most = record {
     blocks = long;
     lower = λ b h. omega (arith, block-start b h .inside);
     upper = λ b h. omega (arith, cut .offsets, block-start b h .inside);
     places = λ b h. let s = block-start b h in omega (arith, cut .places, block-upper (getD ls b 0) s, upper-lt code (getD ls b 0) (s .inside));
-    next = λ b h. let s = block-start b h in
-        record { each = λ x i. omega (arith, succs-within code sound (upperOf code (getD ls b 0)) (upper-lt code (getD ls b 0) (s .inside)) .each x (subst (λ (l : List ℕ). List·Memᴰ x l) (block-next (getD ls b 0) s) i)) };
+    next = λ b h. next-within n most (getD ls b 0) (block-start b h);
   }
 
   cut-takers : gather (takers goes uppers) (take m ls) ≡ gather (λ l. successors code (upperOf code l) ++ (l ∷ [])) (lowers code)
@@ -99,6 +104,40 @@ module _ (code : List Bytecode) (sound : Sound code) (m : ℕ) (goes ls uppers :
     keys-at o s =
         map-agree (λ x. getD key x 0) (keyOf (keyed code)) (successors code (upperOf code o))
         (λ x i. key-at x (succs-start code sound (upperOf code o) x (upper-lt code o (s .inside)) (upper-last code o (s .inside)) i))
+
+    -- ---- the blocks in the order of their keys
+
+    order-long : r ≤ length order
+    order-long = omega (arith, ap length (numbered .front), length-take r order, numbered .count, keys-blocks code sound)
+
+    pub order-start : (i : ℕ) → i < r → Start code (getD order i 0)
+    order-start i h =
+        let e : getD order i 0 ≡ getD (keyed code) i 0 = sym (getD-take r order i 0 h) ∙ ap (λ (l : List ℕ). getD l i 0) (numbered .front) in
+        subst (λ (x : ℕ). Start code x) (sym e) (in-keyed code sound (getD (keyed code) i 0) (getD-in (keyed code) i 0 (omega (arith, numbered .count, keys-blocks code sound))))
+
+    pub order-ready : (n : ℕ) → length code ≤ n → Ready goes order uppers r n
+    order-ready n room = record {
+      blocks = order-long;
+      lower = λ b h. omega (arith, order-start b h .inside);
+      upper = λ b h. omega (arith, cut .offsets, order-start b h .inside);
+      places = λ b h. let s = order-start b h in omega (arith, cut .places, block-upper (getD order b 0) s, upper-lt code (getD order b 0) (s .inside));
+      next = λ b h. next-within n room (getD order b 0) (order-start b h);
+    }
+
+    -- every key is below r + 2
+    pub keys-low : (o : ℕ) → getD key o 0 < r + 2
+    keys-low o =
+        by-lt o (length key) (λ h. by-test (λ b. has o (keyed code) ≡ b → getD key o 0 < r + 2) (has o (keyed code))
+        (λ e q. omega (arith, numbered .each o h, key-some (keyed code) o e, key-below o e)) (λ e q. omega (arith, numbered .each o h, key-none (keyed code) o e)) refl)
+        (λ h. omega (arith, getD-past key o h))
+      where
+        key-below : (x : ℕ) → has x (keyed code) ≡ true → keyOf (keyed code) x < r + 2
+        key-below x e = unfold keyOf in omega (arith, place-lt x (keyed code) (has-in x (keyed code) e), numbered .count, keys-blocks code sound)
+
+        getD-past : (l : List ℕ) (i : ℕ) → length l ≤ i → getD l i 0 ≡ 0
+        getD-past [] i h = refl
+        getD-past (x ∷ xs) zero h = absurd (omega arith)
+        getD-past (x ∷ xs) (suc i) h = getD-past xs i (omega arith)
 
     -- ---- the rows
 

@@ -14,3 +14,5 @@ pub mod RowLaws
 pub mod CallLaws
 pub mod Sorting
 pub mod SortLaws
+pub mod SlotLaws
+pub mod LeadLaws

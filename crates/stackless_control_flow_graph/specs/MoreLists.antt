@@ -3,15 +3,17 @@ use mathlib.Core.Path.{_≡_, refl, sym, ap, ap₂, _∙_}
 use mathlib.Core.Logic.{_≢_, ⊎-elim}
 use mathlib.Core.Bool.{Bool, true, false, cond, _||_, true≢false}
 use mathlib.Core.List.{List, [], _∷_, _++_, map, append-nil, append-assoc, List·Memᴰ, List·Memᴰ·head, List·Memᴰ·tail, List·Memᴰ·not-nil, List·Memᴰ·cases-cons, Memᴰ·cast}
-use Prim.Native.Nat.{ℕ, zero, suc, _+_, _≤_, _<_, zero-le}
-use native.Mathlib.Nat.{add-zero}
+use Prim.Native.Nat.{ℕ, zero, suc, _+_, _*_, _≤_, _<_, zero-le}
+use native.Mathlib.Nat.{add-zero, mul-suc}
 use native.Mathlib.Numerals.{add-one}
 use native.Mathlib.Omega.{arith}
 use borrow.Author.Tests.{eq-eqb, eqb-true, eqb-false}
 use lib.Dec.{eqb}
-use lib.ListN.{getD, take, length}
-use lib.Seq.{take-suc}
+use lib.ListN.{getD, take, drop, length}
+use lib.Seq.{take-suc, length-take-le}
 use Rattle.base.specs.Lists.{tab, keep, gather, has, place, firsts}
+use Rattle.base.specs.PartLaws.{gather-length}
+use Rattle.base.specs.WriteLaws.{part-more, length-kept}
 use Rattle.base.specs.ListLaws.{by-test, in-keep, tab-in, length-tab, Distinct}
 
 -- ---- `keep`
@@ -131,3 +133,20 @@ keep-distinct zero k f = Distinct.none
 keep-distinct (suc n) k f =
     by-test (λ b. Distinct (cond b (k ∷ keep n (suc k) f) (keep n (suc k) f))) (f k)
     (λ e. Distinct.one (λ i. omega (arith, in-keep n (suc k) k f i .low)) (keep-distinct n (suc k) f)) (λ e. keep-distinct n (suc k) f)
+
+-- ---- a piece of c elements for each of a list, one piece a turn, to the front of d
+
+module _ (c : ℕ) (f : ℕ → List ℕ) (size : (x : ℕ) → length (f x) ≡ c) (ls d : List ℕ) (b : ℕ) where
+  pieces-length : b ≤ length ls → length (gather f (take b ls)) ≡ c * b
+  pieces-length h = gather-length c f size (take b ls) ∙ ap (λ (n : ℕ). c * n) (length-take-le b ls h)
+
+  pub pieces-kept : b ≤ length ls → c * b ≤ length d → length (gather f (take b ls) ++ drop (c * b) d) ≡ length d
+  pieces-kept h room = length-kept (gather f (take b ls)) d (c * b) (pieces-length h) room
+
+  pub pieces-more : (t blk : List ℕ) → b < length ls → t ≡ gather f (take b ls) ++ drop (c * b) d → blk ≡ f (getD ls b 0)
+      → take (c * b) t ++ (blk ++ drop c (drop (c * b) t)) ≡ gather f (take (b + 1) ls) ++ drop (c * (b + 1)) d
+  pieces-more t blk h et eb =
+      let next : c * b + c ≡ c * (b + 1) = omega (arith, mul-suc c b, ap (λ (n : ℕ). c * n) (add-one b)) in
+      ap₂ (λ (x y : List ℕ). take (c * b) x ++ (y ++ drop c (drop (c * b) x))) et eb
+      ∙ part-more (gather f (take b ls)) (f (getD ls b 0)) d (c * b) c (pieces-length (omega arith))
+      ∙ ap₂ (λ (x : List ℕ) (n : ℕ). x ++ drop n d) (sym (gather-more f ls b 0 h)) next

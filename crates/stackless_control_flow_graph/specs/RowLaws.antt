@@ -1,21 +1,20 @@
 -- The rows of the flow table, one a turn. Assumes nothing.
-use mathlib.Core.Path.{_≡_, refl, sym, ap, ap₂, _∙_, subst}
+use mathlib.Core.Path.{_≡_, refl, ap, ap₂, _∙_}
 use mathlib.Core.Bool.{Bool, true, false, cond}
 use mathlib.Core.List.{List, [], _∷_, _++_, map}
 use Prim.Native.Nat.{ℕ, _+_, _*_, _≤_, _<_}
 use native.Mathlib.Omega.{arith}
-use lib.ListN.{getD, set, length, take, drop, replicate, length-append, length-take}
+use lib.ListN.{getD, length, take, drop, replicate, length-append}
 use lib.Seq.{sets, length-take-le}
 use Rattle.base.specs.Lists.{gather}
-use Rattle.base.specs.PartLaws.{gather-length}
-use Rattle.base.specs.WriteLaws.{fill, part-more, length-kept}
+use Rattle.base.specs.WriteLaws.{fill}
 use Rattle.stackless_bytecode.specs.declared.Bytecode.{Bytecode}
 use Rattle.stackless_bytecode.specs.Kinds.{isExit}
 use Rattle.sheet.specs.Layout.{instructionAt}
 use Rattle.stackless_control_flow_graph.specs.declared.Three.{Three}
 use Rattle.stackless_control_flow_graph.specs.Arrays.{noOffset, pairOf, succsIn, threeOf, succKeysIn, rowFrom, rowIn}
 use Rattle.stackless_control_flow_graph.specs.KeyLaws.{pair-none, pair-one, pair-two}
-use Rattle.stackless_control_flow_graph.specs.MoreLists.{gather-more}
+use Rattle.stackless_control_flow_graph.specs.MoreLists.{pieces-kept, pieces-more}
 
 -- ---- three keys
 
@@ -69,23 +68,11 @@ row-length s goes uppers key l = omega (arith, keys-length key (succsIn goes (ge
 
 -- ---- all rows
 
-module _ (s goes uppers key ls d : List ℕ) (b : ℕ) (inside : b ≤ length ls) where
-  rows : List ℕ
-  rows = gather (rowIn s goes uppers key) (take b ls)
-
-  rows-length : length (gather (rowIn s goes uppers key) (take b ls)) ≡ 6 * b
-  rows-length = gather-length 6 (rowIn s goes uppers key) (row-length s goes uppers key) (take b ls) ∙ ap (λ (n : ℕ). 6 * n) (length-take-le b ls inside)
-
-  pub rows-kept : 6 * b ≤ length d → length (gather (rowIn s goes uppers key) (take b ls) ++ drop (6 * b) d) ≡ length d
-  rows-kept h = length-kept (gather (rowIn s goes uppers key) (take b ls)) d (6 * b) rows-length h
+module _ (s goes uppers key ls d : List ℕ) (b : ℕ) where
+  pub rows-kept : b ≤ length ls → 6 * b ≤ length d → length (gather (rowIn s goes uppers key) (take b ls) ++ drop (6 * b) d) ≡ length d
+  rows-kept = pieces-kept 6 (rowIn s goes uppers key) (row-length s goes uppers key) ls d b
 
   pub rows-more : (l u : ℕ) (t blk : List ℕ) → b < length ls → l ≡ getD ls b 0 → u ≡ getD uppers l 0 → t ≡ gather (rowIn s goes uppers key) (take b ls) ++ drop (6 * b) d
       → blk ≡ rowFrom s goes key l u → take (6 * b) t ++ (blk ++ drop 6 (drop (6 * b) t)) ≡ gather (rowIn s goes uppers key) (take (b + 1) ls) ++ drop (6 * (b + 1)) d
   rows-more l u t blk h el eu et eb =
-      let next : 6 * b + 6 ≡ 6 * (b + 1) = omega arith in
-      ap₂ (λ (x y : List ℕ). take (6 * b) x ++ (y ++ drop 6 (drop (6 * b) x))) et eb
-      ∙ part-more (gather (rowIn s goes uppers key) (take b ls)) (rowFrom s goes key l u) d (6 * b) 6 rows-length
-      ∙ ap₂ (λ (x : List ℕ) (n : ℕ). x ++ drop n d) (ap (λ (x : List ℕ). gather (rowIn s goes uppers key) (take b ls) ++ x) row ∙ sym (gather-more (rowIn s goes uppers key) ls b 0 h)) next
-    where
-      row : rowFrom s goes key l u ≡ rowIn s goes uppers key (getD ls b 0)
-      row = ap₂ (rowFrom s goes key) el (eu ∙ ap (λ (x : ℕ). getD uppers x 0) el)
+      pieces-more 6 (rowIn s goes uppers key) (row-length s goes uppers key) ls d b t blk h et (eb ∙ ap₂ (rowFrom s goes key) el (eu ∙ ap (λ (x : ℕ). getD uppers x 0) el))

@@ -19,6 +19,7 @@ pub mod starts; // starts.rt: the successors of every offset, and where blocks s
 pub mod blocks; // blocks.rt: the blocks by offset
 pub mod keys; // keys.rt: the key of each block
 pub mod rows; // rows.rt: the rows of the flow table
+pub mod backward; // backward.rt: what each key leads to in the backward graph
 
 // The successors of an offset: none, one or two, in ascending order.
 pub struct Successors {

@@ -100,7 +100,7 @@ loop-again c =
     let a = c .before .before .before .before .before .before .before .before .before .before .before .before .before .before .before .before .args in
     let b = c .before .before .before .before .before .before .before .before .before .loop .b in
     let six : 6 * b + 6 - 6 * b ≡ 6 = omega arith in
-    (search needs, rw six (rows-more (a .sheet .now) (a .goes .now) (a .uppers .now) (a .key .now) (a .lowers .now) (a .table .now) b (omega (arith, c .before .before .before .before .before .before .before .before .before .before .before .before .before .before .before .before .pre .0 .blocks)) (c .before .before .before .before .before .before .wide .result) (c .before .before .before .before .wide2 .result) (c .before .before .before .before .before .before .before .before .before .loop .table) (c .before .before .write-row .last .1 .1 .1 .1 .1 .0) (omega (arith, c .before .before .before .before .before .before .before .before .before .before .before .before .before .before .before .before .pre .0 .blocks)) (c .before .before .before .before .before .before .wide .ensures) (c .before .before .before .before .wide2 .ensures) (c .before .before .before .before .before .before .before .before .before .loop .inv .1) (c .before .before .write-row .ensures)))
+    (search needs, rw six (rows-more (a .sheet .now) (a .goes .now) (a .uppers .now) (a .key .now) (a .lowers .now) (a .table .now) b (c .before .before .before .before .before .before .wide .result) (c .before .before .before .before .wide2 .result) (c .before .before .before .before .before .before .before .before .before .loop .table) (c .before .before .write-row .last .1 .1 .1 .1 .1 .0) (omega (arith, c .before .before .before .before .before .before .before .before .before .before .before .before .before .before .before .before .pre .0 .blocks)) (c .before .before .before .before .before .before .wide .ensures) (c .before .before .before .before .wide2 .ensures) (c .before .before .before .before .before .before .before .before .before .loop .inv .1) (c .before .before .write-row .ensures)))
 
 same-length : tie.Need-same-length Inv-loop μ-loop
 same-length c = kept (c .before)
