@@ -1,22 +1,15 @@
--- `borrow_analysis::upward::many_in` meets its contract. Assumes nothing.
+-- `borrow_analysis::triples::many_in` meets its contract. Assumes nothing.
 use mathlib.Core.Logic.{⊎-elim}
-use mathlib.Core.Path.{_≡_, refl, sym, ap, _∙_, subst}
-use Prim.Native.Nat.{ℕ, _-_, _/_, _≤_}
-use lib.ListN.{length}
+use mathlib.Core.Path.{ap, _∙_}
+use Prim.Native.Nat.{_-_, _≤_}
 use Rattle.base.specs.Lists.{tab}
 use Rattle.dataflow_domains.specs.Sets.{mask}
 use Rattle.borrow_analysis.specs.Graph.{tripleAt}
-use Rattle.borrow_analysis.specs.UpwardLaws.{Counted, counted-none, counted-more, counted-new, counted-all}
+use Rattle.borrow_analysis.specs.TripleLaws.{Counted, counted-none, counted-more, counted-new, counted-all}
 use borrow.Author.Needs.{needs}
 use native.Mathlib.Omega.{arith}
-use Rattle.borrow_analysis.proofs.upward.many_in.Statement.{statement}
-use Rattle.borrow_analysis.proofs.upward.many_in.Tie as tie
-use Rattle.borrow_analysis.proofs.upward.many_in.Reads as reads
-use Rattle.borrow_analysis.proofs.upward.many_in.Lts as lts
-use Rattle.borrow_analysis.proofs.upward.child_at.Reads as child-at-reads
-use Rattle.dataflow_domains.proofs.LiveVarState.empty.Reads as empty-reads
-use Rattle.dataflow_domains.proofs.LiveVarState.has.Reads as has-reads
-use Rattle.dataflow_domains.proofs.LiveVarState.insert.Reads as insert-reads
+use Rattle.borrow_analysis.proofs.triples.many_in.Statement.{statement}
+use Rattle.borrow_analysis.proofs.triples.many_in.Tie as tie
 
 abbrev Inv-loop : tie.InvT-loop
 Inv-loop triples n once₀ many₀ i₀ once many i = (i ≤ n) × Counted (tab i 0 (tripleAt triples)) (mask once) (mask many)

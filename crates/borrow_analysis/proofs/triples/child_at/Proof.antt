@@ -1,10 +1,8 @@
--- `borrow_analysis::upward::child_at` meets its contract. Assumes nothing.
+-- `borrow_analysis::triples::child_at` meets its contract. Assumes nothing.
 use native.Mathlib.Omega.{arith}
 use borrow.Author.Needs.{needs}
-use Rattle.borrow_analysis.proofs.upward.child_at.Statement.{statement}
-use Rattle.borrow_analysis.proofs.upward.child_at.Tie as tie
-use Rattle.borrow_analysis.proofs.upward.child_at.Reads as reads
-use Rattle.borrow_analysis.proofs.upward.child_at.Lts as lts
+use Rattle.borrow_analysis.proofs.triples.child_at.Statement.{statement}
+use Rattle.borrow_analysis.proofs.triples.child_at.Tie as tie
 
 mul-at : tie.Need-mul-at
 mul-at c = search needs
