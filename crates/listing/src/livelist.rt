@@ -19,7 +19,7 @@ const LIVE_BYTES: usize = 2 * SET_BYTES * MAX_INSTRUCTIONS;
 // The text for any bytes, at the front of `out`; the result is its length.
 pub fn print_live(s: &[u8], out: &mut [u8]) -> usize
     requires { ⌜ textBytes ≤ length (now out) ⌝ }
-    ensures { λ r. ⌜ (now (out .exit) ≡ livelist (now (s .entry)) ++ drop r (now (out .entry))) × (r ≡ length (livelist (now (s .entry)))) ⌝ }
+    ensures { λ r. ⌜ (now (out .exit) ≡ livelist (now (s .entry)) ++ drop r (now (out .entry))) × (r ≡ length (livelist (now (s .entry)))) × (r ≤ length (now (out .entry))) ⌝ }
 {
     let mut sets = [0u8; LIVE_BYTES];
     match live(s, &mut sets) {
