@@ -1,3 +1,4 @@
+-- `borrow_analysis::graph::live_set` meets its contract. Assumes nothing.
 use native.Mathlib.Omega.{arith}
 use Rattle.dataflow_domains.specs.Sets.{mask}
 use Rattle.dataflow_domains.specs.Words.{maskOf}
