@@ -1,5 +1,5 @@
-//! Times the proved calls beside plain Rust on the same sheets and graphs, in one run.
-use sorzibelu::{check, conditional, dying, flow, in_use, live, plain, random, random::Rng, sheet::*, Graph};
+//! `bench [ORACLE]`: times the proved calls beside plain Rust on the same sheets and graphs, in one run; with an oracle, beside the original Rust as well.
+use sorzibelu::{check, conditional, dying, flow, in_use, live, oracle::*, plain, random, random::Rng, sheet::*, Graph};
 use std::{hint::black_box, time::Instant};
 
 /// The best of 15 rounds, in nanoseconds a call.
@@ -108,6 +108,30 @@ fn main() {
         ("dying, the same", time(|| { let _ = black_box(dying(black_box(g), black_box(none), &mut out)); })),
         ("in use, a chain of 40 doubled triples", time(|| { let _ = black_box(in_use(black_box(doubled), 0)); })),
     ] {
+        println!("{name:<44} {:>9.2}", t / 1000.0);
+    }
+    let Some(path) = std::env::args().nth(1) else { return };
+    let mut oracle = start(&path).unwrap();
+    println!();
+    println!("{:<44} {:>9}", "the original, over a pipe", "us");
+    let asked = |node: u32| [payload(g), node.to_le_bytes().to_vec()].concat();
+    let mut rows: Vec<(String, u8, Vec<u8>)> = vec![];
+    for (name, sheet) in &sheets {
+        rows.push((format!("flow, {name}"), FLOW, sheet.bytes()));
+        rows.push((format!("live, {name}"), LIVE, sheet.bytes()));
+    }
+    let small = Sheet { locals: 1, code: vec![Instruction::new(RET)], ..Default::default() };
+    rows.push(("flow of one instruction: the pipe".into(), FLOW, small.bytes()));
+    rows.push(("in use, 64 nodes, 246 triples".into(), IN_USE, asked(0)));
+    rows.push(("conditional, the same".into(), CONDITIONAL, asked(63)));
+    rows.push(("dying, the same".into(), DYING, [payload(g), payload(none)].concat()));
+    for (name, op, bytes) in &rows {
+        let (status, _) = ask(&mut oracle, *op, bytes);
+        if status != 0 {
+            println!("{name:<44} does not finish");
+            continue;
+        }
+        let t = time(|| { black_box(ask(&mut oracle, *op, bytes)); });
         println!("{name:<44} {:>9.2}", t / 1000.0);
     }
 }
