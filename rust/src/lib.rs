@@ -46,6 +46,22 @@ mod ffi {
     #[link(name = "c_api", kind = "static")]
     extern "C" {
         pub fn sorzibelu_check(sheet: *const u8, len: usize) -> u64;
+        pub fn sorzibelu_flow(sheet: *const u8, len: usize, table: *mut u16, room: usize) -> u64;
+        pub fn sorzibelu_live(sheet: *const u8, len: usize, sets: *mut u8, room: usize) -> u64;
+        pub fn sorzibelu_in_use(nodes: u32, live: u64, triples: *const u32, len: usize, node: u32) -> u64;
+        pub fn sorzibelu_conditional(nodes: u32, live: u64, triples: *const u32, len: usize, node: u32) -> u64;
+        pub fn sorzibelu_dying(
+            nodes: u32,
+            live: u64,
+            triples: *const u32,
+            len: usize,
+            next_nodes: u32,
+            next_live: u64,
+            next_triples: *const u32,
+            next_len: usize,
+            out: *mut u8,
+            room: usize,
+        ) -> u64;
     }
 }
 
@@ -64,4 +80,55 @@ fn unpack(packed: u64) -> Result<u32, Refusal> {
 pub fn check(sheet: &[u8]) -> Result<(), Refusal> {
     // SAFETY: the call reads `len` bytes from the pointer, and nothing else.
     unpack(unsafe { ffi::sorzibelu_check(sheet.as_ptr(), sheet.len()) }).map(|_| ())
+}
+
+/// The flow table: how many blocks, and six numbers for each at the front of `table`.
+pub fn flow(sheet: &[u8], table: &mut [u16]) -> Result<u32, Refusal> {
+    // SAFETY: the call reads `sheet` and reads and writes `table`, within their lengths.
+    unpack(unsafe { ffi::sorzibelu_flow(sheet.as_ptr(), sheet.len(), table.as_mut_ptr(), table.len()) })
+}
+
+/// The live sets: how many blocks were taken, and 8 bytes of before and 8 of after for each instruction at the front of `sets`.
+pub fn live(sheet: &[u8], sets: &mut [u8]) -> Result<u32, Refusal> {
+    // SAFETY: the call reads `sheet` and reads and writes `sets`, within their lengths.
+    unpack(unsafe { ffi::sorzibelu_live(sheet.as_ptr(), sheet.len(), sets.as_mut_ptr(), sets.len()) })
+}
+
+/// A borrow graph as it is handed over: ascending triples of parent, child and edge.
+#[derive(Clone, Copy, Debug)]
+pub struct Graph<'a> {
+    pub nodes: u32,
+    pub live: u64,
+    pub triples: &'a [u32],
+}
+
+/// Whether a node or a descendant of it is live.
+pub fn in_use(graph: Graph, node: u32) -> Result<bool, Refusal> {
+    // SAFETY: the call reads `triples`, within its length.
+    unpack(unsafe { ffi::sorzibelu_in_use(graph.nodes, graph.live, graph.triples.as_ptr(), graph.triples.len(), node) }).map(|x| x == 1)
+}
+
+/// Whether more than one triple leads to a node or to a descendant of it.
+pub fn conditional(graph: Graph, node: u32) -> Result<bool, Refusal> {
+    // SAFETY: the call reads `triples`, within its length.
+    unpack(unsafe { ffi::sorzibelu_conditional(graph.nodes, graph.live, graph.triples.as_ptr(), graph.triples.len(), node) }).map(|x| x == 1)
+}
+
+/// The nodes that die from this graph to the next: how many, and a byte for each at the front of `out`.
+pub fn dying(graph: Graph, next: Graph, out: &mut [u8]) -> Result<u32, Refusal> {
+    // SAFETY: the call reads both lists of triples and reads and writes `out`, within their lengths.
+    unpack(unsafe {
+        ffi::sorzibelu_dying(
+            graph.nodes,
+            graph.live,
+            graph.triples.as_ptr(),
+            graph.triples.len(),
+            next.nodes,
+            next.live,
+            next.triples.as_ptr(),
+            next.triples.len(),
+            out.as_mut_ptr(),
+            out.len(),
+        )
+    })
 }

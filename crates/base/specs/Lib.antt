@@ -12,3 +12,5 @@ pub mod PutLaws
 pub mod ByteLaws
 pub mod ReplyLaws
 pub mod GrowLaws
+pub mod TabLaws
+pub mod RefusalLaws

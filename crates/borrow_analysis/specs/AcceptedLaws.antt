@@ -1,40 +1,27 @@
 -- What an accepted graph is like, and what the calls answer of it. Assumes nothing.
-use mathlib.Core.Path.{_≡_, refl, sym, ap, ap₂, _∙_, subst}
-use mathlib.Core.Bool.{Bool, true, false, cond, _||_, _&&_}
-use mathlib.Core.List.{List, [], _∷_, _++_, List·Memᴰ}
+use mathlib.Core.Path.{_≡_, refl, sym, ap, ap₂, _∙_}
+use mathlib.Core.Bool.{Bool, true, false, cond, _&&_}
+use mathlib.Core.List.{List, [], _++_}
 use mathlib.Core.Option.{Option, none, some}
-use Prim.Native.Nat.{ℕ, zero, suc, _+_, _*_, _/_, _%_, _^_, _≤_, _<_}
+use Prim.Native.Nat.{ℕ, _+_, _*_, _/_, _%_, _^_, _≤_, _<_}
 use native.Mathlib.Omega.{arith}
 use borrow.Author.Tests.{leb-true, ltb-true, lt-ltb, le-ltb}
 use lib.Dec.{eqb, leb, ltb}
 use lib.ListN.{getD, length, drop}
 use Rattle.base.specs.Sizes.{maxLocals, maxTriples}
-use Rattle.base.specs.Lists.{firstBad, tab, over}
-use Rattle.base.specs.ListLaws.{and-true, in-getD, getD-tab, length-tab}
+use Rattle.base.specs.Lists.{over}
+use Rattle.base.specs.ListLaws.{and-true}
 use Rattle.base.specs.SearchLaws.{none-all}
-use Rattle.base.specs.Refusals.{Answer, Accepted, Refused, refuse, whole, Result, Done, reply, resultOf, left}
+use Rattle.base.specs.RefusalLaws.{passed, whole-true}
+use Rattle.base.specs.Refusals.{Accepted, Refused, Result, reply, resultOf, left}
 use Rattle.dataflow_domains.specs.Mask.{holds}
 use Rattle.dataflow_domains.specs.Members.{members}
-use Rattle.borrow_analysis.specs.Graph.{Triple, Graph, Given, tripleAt, triplesOf, graphOf, rank, nodesOk, tripleOk, triplesBad, moved, checkAsked, checkGraphs}
+use Rattle.borrow_analysis.specs.declared.graph.Checked.{Checked}
+use Rattle.borrow_analysis.specs.Answers.{answerOf}
+use Rattle.borrow_analysis.specs.Graph.{Given, tripleAt, triplesOf, graphOf, nodesOk, tripleOk, triplesBad, moved, checkAsked, checkGraphs}
 use Rattle.borrow_analysis.specs.Borrows.{above, upward, manyIn, isInUse, isConditional, collectAncestors, dyingNodes, inUseReply, conditionalReply, dyingReply}
 use Rattle.borrow_analysis.specs.Parts.{Inside, Many, Came}
-use Rattle.borrow_analysis.specs.UpwardLaws.{many-is, incoming-out}
-
--- ---- an accepted call passed each check
-
-pub record Passed (found : Option ℕ) (rest : Answer) : Type 0 where
-  pub clear : found ≡ none
-  pub next : rest ≡ Accepted
-
-pub passed : (num : ℕ) (found : Option ℕ) (rest : Answer) → refuse num found rest ≡ Accepted → Passed found rest
-unfolding refuse
-passed num none rest e = record { clear = refl; next = e }
-passed num (some p) rest e = absurd (let z : _≡_ {A = ℕ} 0 1 = cc in omega arith)
-
-pub whole-true : (b : Bool) → whole b ≡ none → b ≡ true
-unfolding whole
-whole-true true e = refl
-whole-true false e = absurd (let z : _≡_ {A = ℕ} 0 1 = cc in omega arith)
+use Rattle.borrow_analysis.specs.TripleLaws.{many-is, incoming-out}
 
 moved-none : (by : ℕ) (o : Option ℕ) → moved by o ≡ none → o ≡ none
 unfolding moved
@@ -43,6 +30,7 @@ moved-none by (some p) e = absurd (let z : _≡_ {A = ℕ} 0 1 = cc in omega ari
 
 -- ---- an accepted graph
 
+-- few nodes, the live ones among them, and so all nodes that triples name
 pub record Fine (g : Given) : Type 0 where
   pub few : g .count ≤ maxLocals
   pub small : g .live < 2 ^ g .count
@@ -71,6 +59,7 @@ unfolding nodesOk
 fine g a o = let r = and-true (leb (g .count) maxLocals) (ltb (g .live) (2 ^ g .count)) a in
     record { few = leb-true _ _ (r .0); small = ltb-true _ _ (r .1); inside = inside-of g o }
 
+-- accepted: the graph is, and the asked node is one of it
 pub accepted-asked : (g : Given) (node : ℕ) → checkAsked g node ≡ Accepted → Fine g × (node < g .count)
 unfolding checkAsked
 accepted-asked g node e =
@@ -79,6 +68,7 @@ accepted-asked g node e =
     let three = passed 14 _ _ (two .next) in
     (fine g (whole-true _ (one .clear)) (two .clear), ltb-true node (g .count) (whole-true _ (three .clear)))
 
+-- accepted: both graphs are
 pub accepted-graphs : (here next : Given) → checkGraphs here next ≡ Accepted → Fine here × Fine next
 unfolding checkGraphs
 accepted-graphs here next e =
@@ -88,6 +78,14 @@ accepted-graphs here next e =
     let four = passed 13 _ _ (three .next) in
     (fine here (whole-true _ (one .clear)) (three .clear), fine next (whole-true _ (moved-none 1 _ (two .clear))) (moved-none 1000 _ (four .clear)))
 
+-- the same of what the code's checks say
+pub told-asked : (g : Given) (node : ℕ) (r : Checked) → answerOf r ≡ checkAsked g node → r ≡ Checked.Accepted → Fine g × (node < g .count)
+told-asked g node r e t = accepted-asked g node (sym e ∙ ap answerOf t)
+
+pub told-graphs : (here next : Given) (r : Checked) → answerOf r ≡ checkGraphs here next → r ≡ Checked.Accepted → Fine here × Fine next
+told-graphs here next r e t = accepted-graphs here next (sym e ∙ ap answerOf t)
+
+-- nodes below a are below a larger b
 pub inside-wider : {a b : ℕ} (xs : List ℕ) → a ≤ b → Inside a xs → Inside b xs
 inside-wider xs h w = record { parents = λ i l. omega (arith, w .parents i l); children = λ i l. omega (arith, w .children i l) }
 
@@ -103,10 +101,10 @@ module _ (g : Given) (node : ℕ) where
   conditional-refused num place e = rw (← e)
 
   -- b says whether the set m has the node
-  pub in-use-done : (m : ℕ) (b : Bool) → Accepted ≡ checkAsked g node → m ≡ upward (g .count) (triplesOf (g .numbers)) (g .live) → holds m node ≡ b
+  pub in-use-done : (m n : ℕ) (b : Bool) → Accepted ≡ checkAsked g node → m ≡ upward (g .count) (triplesOf (g .numbers)) n → n ≡ g .live → holds m node ≡ b
       → _≡_ {A = Result} (record { number = 0; value = cond b 1 0 }) (resultOf (inUseReply g node))
   unfolding inUseReply isInUse above graphOf reply resultOf
-  in-use-done m b a e h = rw (← a, ← e, h)
+  in-use-done m n b a e f h = rw (← a, ← f, ← e, h)
 
   pub conditional-done : (m n : ℕ) (b : Bool) → Accepted ≡ checkAsked g node → Many (triplesOf (g .numbers)) n → m ≡ upward (g .count) (triplesOf (g .numbers)) n → holds m node ≡ b
       → _≡_ {A = Result} (record { number = 0; value = cond b 1 0 }) (resultOf (conditionalReply g node))
@@ -129,18 +127,20 @@ module _ (here next : Given) (lent : List ℕ) where
   unfolding dyingReply reply resultOf left
   dying-short e h = (rw (← e, lt-ltb (length lent) (here .count) h), rw (← e, lt-ltb (length lent) (here .count) h))
 
-  dying-same : {used from : ℕ} → used ≡ upward (next .count) (triplesOf (next .numbers)) (next .live) → from ≡ here .live
+  dying-same : {used from there : ℕ} → used ≡ upward (next .count) (triplesOf (next .numbers)) there → there ≡ next .live → from ≡ here .live
       → over (collectAncestors (here .count) (triplesOf (here .numbers)) used) (record { mask = 0; listed = [] }) (members (here .count) from) .listed ≡ dyingNodes (graphOf here) (graphOf next)
   unfolding dyingNodes above graphOf
-  dying-same u f =
-      ap₂ (λ (x y : ℕ). over (collectAncestors (here .count) (triplesOf (here .numbers)) x) (record { mask = 0; listed = [] }) (members (here .count) y) .listed) u f
+  dying-same u t f =
+      ap₂ (λ (x y : ℕ). over (collectAncestors (here .count) (triplesOf (here .numbers)) x) (record { mask = 0; listed = [] }) (members (here .count) y) .listed)
+      (u ∙ ap (upward (next .count) (triplesOf (next .numbers))) t) f
 
-  pub dying-done : {used from m k : ℕ} {new : List ℕ} → Accepted ≡ checkGraphs here next → here .count ≤ length lent → used ≡ upward (next .count) (triplesOf (next .numbers)) (next .live) → from ≡ here .live
+  pub dying-done : {used from there m k : ℕ} {new : List ℕ} → Accepted ≡ checkGraphs here next → here .count ≤ length lent
+      → used ≡ upward (next .count) (triplesOf (next .numbers)) there → there ≡ next .live → from ≡ here .live
       → Came (over (collectAncestors (here .count) (triplesOf (here .numbers)) used) (record { mask = 0; listed = [] }) (members (here .count) from)) m k lent new
       → (_≡_ {A = Result} (record { number = 0; value = k }) (resultOf (dyingReply here next (length lent)))) × (new ≡ left (dyingReply here next (length lent)) lent)
   unfolding dyingReply reply resultOf left
-  dying-done e h u f v =
-      let same = dying-same u f in (
+  dying-done e h u t f v =
+      let same = dying-same u t f in (
         rw (← e, le-ltb (length lent) (here .count) h) (ap (λ (n : ℕ). record { number = 0; value = n }) (v .count ∙ ap length same)),
         rw (← e, le-ltb (length lent) (here .count) h) (v .wrote ∙ ap (λ (l : List ℕ). l ++ drop (length l) lent) same),
       )

@@ -1,57 +1,22 @@
--- The visits of the definition: how they go on, and that what is seen grows, each node once. Assumes nothing.
-use mathlib.Core.Path.{_≡_, refl, sym, ap, ap₂, _∙_, subst}
-use mathlib.Core.Logic.{_⊎_, inl, inr, ⊎-elim}
+-- The visits of the definition: the parents of a node, one visit, and that what is seen only grows. Assumes nothing.
+use mathlib.Core.Path.{_≡_, refl, sym, ap, _∙_, subst}
+use mathlib.Core.Logic.{⊎-elim}
 use mathlib.Core.Bool.{Bool, true, false, cond, _||_}
 use mathlib.Core.List.{List, [], _∷_, _++_, List·Memᴰ, List·Memᴰ·head, List·Memᴰ·tail, List·Memᴰ·not-nil, List·Memᴰ·cases-cons}
-use Prim.Native.Nat.{ℕ, zero, suc, _+_, _-_, _*_, _/_, _%_, _^_, _≤_, _<_, max}
-use native.Mathlib.Nat.{pow-suc}
+use Prim.Native.Nat.{ℕ, zero, suc, _+_, _-_, _^_, _≤_, _<_}
 use native.Mathlib.Omega.{arith}
 use borrow.Author.Tests.{eq-eqb, ne-eqb, eqb-true}
-use lib.Count.{ones, ones-step}
+use lib.Count.{ones}
 use lib.Dec.{eqb}
 use lib.ListN.{length, length-append}
 use lib.Pow.{pow-lt}
 use Rattle.base.specs.Lists.{tab, over}
 use Rattle.base.specs.ListLaws.{by-test, or-false}
-use Rattle.dataflow_domains.specs.Mask.{bit, holds, union, Sub}
-use Rattle.dataflow_domains.specs.MaskLaws.{ext, bit-low, bit-suc, bit-union, bit-lt, union-none, sub-refl, sub-trans, sub-union-r, union-lt, holds-false}
+use Rattle.base.specs.TabLaws.{tab-more, tab-end, over-keeps}
+use Rattle.dataflow_domains.specs.Mask.{holds, union, Sub}
+use Rattle.dataflow_domains.specs.MaskLaws.{union-comm, ones-insert, sub-refl, sub-trans, sub-union-r, union-lt, holds-false}
 use Rattle.borrow_analysis.specs.Graph.{Triple}
 use Rattle.borrow_analysis.specs.Borrows.{Seen, getParents, collectAncestors}
-use Rattle.borrow_analysis.specs.UpwardLaws.{union-comm, tab-more, tab-end}
-
--- ---- one element more
-
-union-half : (a b : ℕ) → union a b / 2 ≡ union (a / 2) (b / 2)
-union-half a b =
-    ext (union a b / 2) (union (a / 2) (b / 2)) (λ i. sym (bit-suc (union a b) i) ∙ bit-union a b (suc i)
-    ∙ ap₂ max (bit-suc a i) (bit-suc b i) ∙ sym (bit-union (a / 2) (b / 2) i))
-
-union-odd : (a b : ℕ) → union a b % 2 ≡ max (a % 2) (b % 2)
-union-odd a b = sym (bit-low (union a b)) ∙ bit-union a b 0 ∙ ap₂ max (bit-low a) (bit-low b)
-
--- a number put into a set that has it not: one element more
-pub ones-insert : (n m : ℕ) → bit m n ≡ 0 → ones (union m (2 ^ n)) ≡ suc (ones m)
-ones-insert zero m e =
-    omega (arith, ones-step (union m 1), ones-step m, union-odd m 1, ap ones (union-half m 1 ∙ union-none (m / 2)), bit-low m)
-ones-insert (suc n) m e =
-    let twice : 2 ^ suc n ≡ 2 ^ n * 2 = pow-suc 2 n in
-    let half : 2 ^ suc n / 2 ≡ 2 ^ n = omega arith in
-    omega (
-      arith,
-      ones-step (union m (2 ^ suc n)),
-      ones-step m,
-      union-odd m (2 ^ suc n),
-      ap ones (union-half m (2 ^ suc n) ∙ ap (union (m / 2)) half),
-      ones-insert n (m / 2) (sym (bit-suc m n) ∙ e),
-    )
-
--- ---- `over`
-
--- what each step keeps, the whole keeps
-pub over-keeps : {A B : Type 0} (P : B → Type 0) (f : B → A → B) (xs : List A) (b : B) → ((b : B) (x : A) → List·Memᴰ x xs → P b → P (f b x)) → P b → P (over f b xs)
-unfolding over
-over-keeps P f [] b h p = p
-over-keeps P f (x ∷ xs) b h p = over-keeps P f xs (f b x) (λ c y i. h c y (List·Memᴰ·tail i)) (h b x (List·Memᴰ·head refl) p)
 
 -- ---- the parents of a node
 

@@ -1,15 +1,15 @@
 -- What `above` means: a node is above a set where it is in it or has a descendant in it, on cycles too. Assumes nothing.
 use mathlib.Core.Path.{_≡_, refl, sym, ap, _∙_, subst}
-use mathlib.Core.Logic.{_⊎_, inl, inr, _≢_, ⊎-elim}
+use mathlib.Core.Logic.{_⊎_, inl, inr, ⊎-elim}
 use mathlib.Core.Bool.{Bool, true, false, cond}
 use mathlib.Core.List.{List, [], _∷_, List·Memᴰ, List·Memᴰ·head, List·Memᴰ·tail, List·Memᴰ·not-nil, List·Memᴰ·cases-cons}
-use Prim.Native.Nat.{ℕ, zero, suc, _+_, _-_, _^_, _≤_, _<_, zero-le, max}
+use Prim.Native.Nat.{ℕ, zero, suc, _-_, _^_, _≤_, _<_, zero-le}
 use native.Mathlib.Decide.{ℕ-discrete}
 use native.Mathlib.Omega.{arith}
 use lib.Count.{ones, ones-ones}
 use lib.Pow.{pow-lt, pow-pos}
-use Rattle.dataflow_domains.specs.Mask.{bit, holds, union, Sub}
-use Rattle.dataflow_domains.specs.MaskLaws.{bit-lt, bit-union, bit-empty, bit-self, bit-other, holds-true, holds-false, true-holds, sub-refl, sub-trans, sub-antisymm, sub-union-l, sub-union-r, sub-full, sub-le, sub-at, union-lt, ones-mono, ones-same}
+use Rattle.dataflow_domains.specs.Mask.{bit, holds, Sub}
+use Rattle.dataflow_domains.specs.MaskLaws.{bit-lt, bit-union, bit-empty, bit-self, bit-other, holds-true, true-holds, sub-refl, sub-trans, sub-antisymm, sub-union-l, sub-union-r, sub-full, sub-at, union-lt, ones-mono, ones-same}
 use Rattle.borrow_analysis.specs.Graph.{Triple, Graph}
 use Rattle.borrow_analysis.specs.Borrows.{parentsIn, upward, above, isInUse}
 use Rattle.borrow_analysis.specs.Meaning.{Descends, same, down, Reaches}

@@ -9,6 +9,18 @@ use Rattle.base.specs.Refusals.{Reply, Done, reply}
 use Rattle.dataflow_domains.specs.Mask.{holds, union}
 use Rattle.borrow_analysis.specs.Graph.{Triple, Graph, Given, graphOf, checkAsked, checkGraphs}
 
+-- ---- the triples that lead to a node
+
+-- the parents of a node, ascending, one for each triple
+unfoldable pub getParents : List Triple → ℕ → List ℕ
+getParents [] n = []
+getParents (t ∷ ts) n = cond (eqb (t .child) n) (t .parent ∷ getParents ts n) (getParents ts n)
+
+-- how many there are
+unfoldable pub incoming : List Triple → ℕ → ℕ
+incoming [] n = 0
+incoming (t ∷ ts) n = cond (eqb (t .child) n) (suc (incoming ts n)) (incoming ts n)
+
 -- ---- up from a set of nodes
 
 -- m and the parents, over one triple, of the nodes in m
@@ -31,11 +43,6 @@ above g m = upward (g .count) (g .triples) m
 unfoldable pub isInUse : Graph → ℕ → Bool
 isInUse g n = holds (above g (g .live)) n
 
--- how many triples lead to a node
-unfoldable pub incoming : List Triple → ℕ → ℕ
-incoming [] n = 0
-incoming (t ∷ ts) n = cond (eqb (t .child) n) (suc (incoming ts n)) (incoming ts n)
-
 -- those of the n nodes from k on that have more than one incoming triple
 unfoldable pub manyIn : ℕ → ℕ → List Triple → ℕ
 manyIn zero k ts = 0
@@ -51,11 +58,6 @@ isConditional g n = holds (above g (manyIn (g .count) 0 (g .triples))) n
 pub record Seen : Type 0 where
   pub mask : ℕ
   pub listed : List ℕ
-
--- the parents of a node, ascending, one for each triple
-unfoldable pub getParents : List Triple → ℕ → List ℕ
-getParents [] n = []
-getParents (t ∷ ts) n = cond (eqb (t .child) n) (t .parent ∷ getParents ts n) (getParents ts n)
 
 -- n and then, depth first, its parents, where not seen and not in `used`; at most d deep
 unfoldable pub collectAncestors : ℕ → List Triple → ℕ → Seen → ℕ → Seen

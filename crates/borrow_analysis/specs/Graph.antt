@@ -7,7 +7,7 @@ use lib.Dec.{eqb, leb, ltb}
 use lib.ListN.{getD, length}
 use Rattle.base.specs.Sizes.{maxLocals, maxTriples}
 use Rattle.base.specs.Lists.{tab, firstBad}
-use Rattle.base.specs.Refusals.{Answer, Accepted, Refused, refuse, whole}
+use Rattle.base.specs.Refusals.{Answer, Accepted, refuse, whole}
 
 -- ---- graphs
 

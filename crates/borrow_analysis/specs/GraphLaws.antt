@@ -1,13 +1,10 @@
--- What the proofs of the checks cite. Assumes nothing.
-use mathlib.Core.Path.{_≡_, refl, sym, ap, ap₂, _∙_}
-use mathlib.Core.Bool.{Bool, true, false, cond, _||_, _&&_}
+-- Checks 12 to 14 as the code makes them: the order of triples, a triple, the live nodes, and one check after the other. Assumes nothing.
+use mathlib.Core.Path.{_≡_, refl, sym, ap, _∙_}
+use mathlib.Core.Bool.{Bool, true, false, cond, _&&_}
 use mathlib.Core.List.{List, []}
 use mathlib.Core.Option.{Option, none, some}
-use Prim.Native.Nat.{ℕ, zero, suc, _+_, _-_, _*_, _/_, _%_, _^_, _≤_, _<_}
-use native.Mathlib.Decide.{decLt}
+use Prim.Native.Nat.{ℕ, _+_, _-_, _*_, _/_, _%_, _^_, _≤_, _<_}
 use native.Mathlib.Omega.{arith}
-use native.Mathlib.Nat.{div-add-mod', mod-lt}
-use lib.Pow.{shr-shr, pow-pos}
 use borrow.Author.Tests.{lt-ltb, le-ltb, le-leb, lt-leb, eq-eqb, ne-eqb, ltb-true, ltb-false, leb-true}
 use lib.Dec.{eqb, leb, ltb}
 use lib.ListN.{getD, length}
@@ -15,8 +12,10 @@ use Rattle.base.specs.Sizes.{maxLocals, maxTriples}
 use Rattle.base.specs.Refusals.{Accepted, Refused, refuse, whole}
 use Rattle.base.specs.Lists.{firstBad}
 use Rattle.base.specs.ListLaws.{by-test, by-eq}
-use Rattle.dataflow_domains.specs.Mask.{bit, holds}
-use Rattle.dataflow_domains.specs.MaskLaws.{bit-above, none-empty, holds-true, holds-false}
+use Rattle.base.specs.JoinLaws.{by-lt}
+use Rattle.base.specs.SearchLaws.{bad-lt}
+use Rattle.dataflow_domains.specs.Mask.{holds}
+use Rattle.dataflow_domains.specs.MaskLaws.{bit-above, none-lt, holds-true, holds-false}
 use Rattle.borrow_analysis.specs.Graph.{Triple, Given, tripleAt, given, nodesOk, rank, tripleOk, triplesBad, moved, checkAsked, checkGraphs}
 
 -- ---- the order of triples
@@ -25,6 +24,7 @@ ltb-same : (a b x y : ℕ) → (a < b → x < y) → (b ≤ a → y ≤ x) → l
 ltb-same a b x y f g = by-test (λ t. t ≡ ltb x y) (ltb a b) (λ e. sym (lt-ltb x y (f (ltb-true a b e)))) (λ e. sym (le-ltb x y (g (ltb-false a b e))))
 
 module _ (p c e q d f : ℕ) (hc : c < 2 ^ 32) (he : e < 2 ^ 32) (hd : d < 2 ^ 32) (hf : f < 2 ^ 32) where
+  -- the first number that differs decides
   pub rank-parent : (p ≡ q → ⊥) → ltb p q ≡ ltb (rank (record { parent = p; child = c; edge = e })) (rank (record { parent = q; child = d; edge = f }))
   unfolding rank
   rank-parent g = ltb-same p q ((p * 2 ^ 32 + c) * 2 ^ 32 + e) ((q * 2 ^ 32 + d) * 2 ^ 32 + f) (λ h. omega arith) (λ h. omega arith)
@@ -43,6 +43,7 @@ triple-eq : {p c e q d f : ℕ} → p ≡ q → c ≡ d → e ≡ f → _≡_ {A
 triple-eq x y z = cc
 
 module _ (nodes : ℕ) (xs : List ℕ) (i : ℕ) where
+  -- the parent is too high; the child is; the first triple; one above the one before it
   pub triple-parent : nodes ≤ getD xs (3 * i) 0 → false ≡ tripleOk (given nodes 0 xs) i
   unfolding tripleOk
   triple-parent h = rw (le-ltb (getD xs (3 * i) 0) nodes h)
@@ -66,23 +67,9 @@ module _ (nodes : ℕ) (xs : List ℕ) (i : ℕ) where
       e ∙ ap (λ (t : Triple). ltb (rank t) (rank (tripleAt xs i))) (triple-eq (ap (λ (k : ℕ). getD xs k 0) one) (ap (λ (k : ℕ). getD xs k 0) two) (ap (λ (k : ℕ). getD xs k 0) three))
       ∙ rw (lt-ltb (getD xs (3 * i) 0) nodes h, lt-ltb (getD xs (3 * i + 1) 0) nodes g, ne-eqb i 0 n)
 
--- ---- the live nodes
+-- ---- the live nodes: none from the count on
 
-bit-shift : (m l i : ℕ) → bit (m / 2 ^ l) i ≡ bit m (l + i)
-unfolding bit
-bit-shift m l i = ap (λ (x : ℕ). x % 2) (shr-shr m l i)
-
--- a set with no element from l on is within the width l
-pub none-lt : (m l : ℕ) → ((k : ℕ) → l ≤ k → bit m k ≡ 0) → m < 2 ^ l
-none-lt m l h =
-    let rest : m / 2 ^ l ≡ 0 = none-empty (m / 2 ^ l) (λ i. bit-shift m l i ∙ h (l + i) (omega arith)) in
-    omega (arith, div-add-mod' m (2 ^ l), ap (λ (x : ℕ). x * 2 ^ l) rest, mod-lt m (pow-pos l))
-
--- and the other way
-pub lt-none : (m l k : ℕ) → m < 2 ^ l → l ≤ k → bit m k ≡ 0
-lt-none m l k h g = bit-above m k l h g
-
--- no element from `from` on to i
+-- none of the elements from `from` on to i
 pub record None (m from i : ℕ) : Type 0 where
   pub each : (k : ℕ) → from ≤ k → k < i → holds m k ≡ false
 
@@ -94,23 +81,11 @@ none-more m from i n e = record { each = λ k l h. by-eq k i (λ s. ap (holds m)
 
 pub none-all : (m from i w : ℕ) → m < 2 ^ w → w ≤ i → None m from i → true ≡ ltb m (2 ^ from)
 none-all m from i w h l n =
-    sym (lt-ltb m (2 ^ from) (none-lt m from (λ k q. go k q (decLt k i))))
-  where
-    go : (k : ℕ) → from ≤ k → Dec (k < i) → bit m k ≡ 0
-    go k q (yes g) = holds-false m k (n .each k q g)
-    go k q (no g) = bit-above m k w h (omega arith)
+    sym (lt-ltb m (2 ^ from) (none-lt m from (λ k q. by-lt k i (λ g. holds-false m k (n .each k q g)) (λ g. bit-above m k w h (omega arith)))))
 
 pub none-stop : (m from i : ℕ) → from ≤ i → holds m i ≡ true → false ≡ ltb m (2 ^ from)
 none-stop m from i l e =
     by-test (λ b. false ≡ b) (ltb m (2 ^ from)) (λ q. absurd (omega (arith, holds-true m i e, bit-above m i from (ltb-true m (2 ^ from) q) l))) (λ q. refl)
-
--- what the search finds is one of the places
-pub bad-lt : (n k p : ℕ) (ok : ℕ → Bool) → firstBad n k ok ≡ some p → p < k + n
-unfolding firstBad
-bad-lt zero k p ok e = absurd (let z : _≡_ {A = ℕ} 0 1 = cc in omega arith)
-bad-lt (suc n) k p ok e =
-    by-test (λ b. _≡_ {A = Option ℕ} (elim b [ true ↦ firstBad n (suc k) ok | false ↦ some k ]) (some p) → p < k + suc n) (ok k)
-    (λ t f. omega (arith, bad-lt n (suc k) p ok f)) (λ t f. let q : k ≡ p = cc in omega arith) e
 
 -- ---- 12
 
@@ -125,6 +100,7 @@ nodes-few nodes live h = rw (le-leb nodes maxLocals h)
 -- ---- 13
 
 module _ (nodes : ℕ) (xs : List ℕ) where
+  -- no multiple of three; too many; else the first bad triple
   pub length-odd : (length xs % 3 ≡ 0 → ⊥) → some 300 ≡ triplesBad (given nodes 0 xs)
   unfolding triplesBad
   length-odd h = rw (ne-eqb (length xs % 3) 0 h)
@@ -137,7 +113,7 @@ module _ (nodes : ℕ) (xs : List ℕ) where
   unfolding triplesBad
   length-fine e h = rw (eq-eqb (length xs % 3) 0 e, le-leb (length xs / 3) maxTriples h)
 
--- the place is small
+-- no place is above 300
 pub place-small : (g : Given) (p : ℕ) → triplesBad g ≡ some p → p ≤ 300
 unfolding triplesBad
 place-small g p e = go (eqb (length (g .numbers) % 3) 0) (leb (length (g .numbers) / 3) maxTriples) refl e
@@ -146,7 +122,7 @@ place-small g p e = go (eqb (length (g .numbers) % 3) 0) (leb (length (g .number
     one q e = cc
 
     go : (a b : Bool) → leb (length (g .numbers) / 3) maxTriples ≡ b → cond (a && b) (firstBad (length (g .numbers) / 3) 0 (tripleOk g)) (some 300) ≡ some p → p ≤ 300
-    go true true l f = omega (arith, leb-true (length (g .numbers) / 3) maxTriples l, bad-lt (length (g .numbers) / 3) 0 p (tripleOk g) f)
+    go true true l f = omega (arith, leb-true (length (g .numbers) / 3) maxTriples l, bad-lt (length (g .numbers) / 3) 0 (tripleOk g) p f)
     go true false l f = omega (arith, one 300 f)
     go false b l f = omega (arith, one 300 f)
 
@@ -158,6 +134,7 @@ unfolding checkAsked nodesOk triplesBad tripleOk
 asked-is nodes live node xs a b o p q r = rw (← p, ← q, ← r)
 
 module _ (nodes live node : ℕ) (xs : List ℕ) where
+  -- refused by 12, by 13, by 14, and accepted
   pub asked-nodes : nodesOk (given nodes live []) ≡ false → Refused 12 0 ≡ checkAsked (given nodes live xs) node
   unfolding refuse whole
   asked-nodes p = asked-is nodes live node xs false _ _ p refl refl
@@ -181,6 +158,7 @@ unfolding checkGraphs nodesOk triplesBad tripleOk
 graphs-are n l m k xs ys a b o q c d e f = rw (← c, ← d, ← e, ← f)
 
 module _ (n l m k : ℕ) (xs ys : List ℕ) where
+  -- refused by 12 of this graph and of the next, by 13 of this one and of the next, and accepted
   pub graphs-nodes : nodesOk (given n l []) ≡ false → Refused 12 0 ≡ checkGraphs (given n l xs) (given m k ys)
   unfolding refuse whole
   graphs-nodes a = graphs-are n l m k xs ys false _ _ _ a refl refl refl

@@ -1,10 +1,11 @@
 pub mod Graph
 pub mod Borrows
 pub mod Meaning
-pub mod BorrowLaws
 pub mod Answers
-pub mod GraphLaws
 pub mod Parts
+pub mod GraphLaws
+pub mod BorrowLaws
+pub mod TripleLaws
 pub mod UpwardLaws
 pub mod AcceptedLaws
 pub mod AncestorLaws

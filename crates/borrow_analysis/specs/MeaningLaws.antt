@@ -1,40 +1,30 @@
 -- The answers of accepted calls mean what Meaning says, on cycles too. Assumes nothing.
-use mathlib.Core.Path.{_≡_, refl, sym, ap, _∙_, subst}
-use mathlib.Core.Logic.{_⊎_, inl, inr, ⊎-elim}
-use mathlib.Core.Bool.{Bool, true, false, true≢false}
+use mathlib.Core.Path.{_≡_, refl, sym, _∙_}
+use mathlib.Core.Logic.{⊎-elim}
+use mathlib.Core.Bool.{true, false, true≢false}
 use mathlib.Core.List.{List, [], List·Memᴰ, List·Memᴰ·not-nil}
-use Prim.Native.Nat.{ℕ, zero, suc, _+_, _/_, _^_, _≤_, _<_}
-use native.Mathlib.Decide.{decLt}
+use Prim.Native.Nat.{ℕ, _/_, _^_, _<_}
 use native.Mathlib.Omega.{arith}
 use borrow.Author.Tests.{ltb-true, lt-ltb}
-use lib.Count.{ones}
-use lib.Dec.{ltb}
 use lib.ListN.{length}
 use lib.Pow.{pow-pos}
-use Rattle.base.specs.Lists.{over, keep}
-use Rattle.base.specs.ListLaws.{by-test, Distinct, none}
+use Rattle.base.specs.Lists.{over}
+use Rattle.base.specs.ListLaws.{none}
+use Rattle.base.specs.JoinLaws.{by-lt}
+use Rattle.base.specs.TabLaws.{over-keeps}
 use Rattle.base.specs.Refusals.{Accepted}
 use Rattle.dataflow_domains.specs.Mask.{bit, holds}
 use Rattle.dataflow_domains.specs.Members.{members}
 use Rattle.dataflow_domains.specs.MemberLaws.{in-members, members-in}
-use Rattle.dataflow_domains.specs.MaskLaws.{bit-above, bit-empty, holds-true, true-holds, ones-zero}
-use Rattle.borrow_analysis.specs.Graph.{Triple, Graph, Given, tripleAt, triplesOf, graphOf, checkAsked, checkGraphs}
-use Rattle.borrow_analysis.specs.Borrows.{above, upward, incoming, manyIn, isInUse, isConditional, Seen, collectAncestors, dyingNodes}
-use Rattle.borrow_analysis.specs.Meaning.{Descends, same, Reaches, InUse, Conditional, Dies, live, parent, DyingList, Decides}
+use Rattle.dataflow_domains.specs.MaskLaws.{bit-below, bit-empty, holds-true, true-holds, ones-zero}
+use Rattle.borrow_analysis.specs.Graph.{Triple, Graph, Given, tripleAt, graphOf, checkAsked, checkGraphs}
+use Rattle.borrow_analysis.specs.Borrows.{above, incoming, manyIn, isInUse, isConditional, Seen, collectAncestors, dyingNodes}
+use Rattle.borrow_analysis.specs.Meaning.{Descends, same, down, InUse, Conditional, Dies, live, parent, DyingList, Decides}
 use Rattle.borrow_analysis.specs.BorrowLaws.{above-reaches, reaches-above, in-use-reaches, reaches-in-use}
 use Rattle.borrow_analysis.specs.AcceptedLaws.{Fine, accepted-asked, accepted-graphs}
-use Rattle.borrow_analysis.specs.UpwardLaws.{many-bits, many-out, many-lt, incoming-out}
+use Rattle.borrow_analysis.specs.TripleLaws.{many-bits, many-out, many-lt, incoming-out}
 use Rattle.borrow_analysis.specs.VisitLaws.{parents-below}
-use Rattle.borrow_analysis.specs.AncestorLaws.{over-keeps, Fair}
-use Rattle.borrow_analysis.specs.WalkLaws.{Once, collect-once, All, collect-only, Settled, Closed, Visits, over-visits, collect-visits}
-
--- an element of a set of width l is below l
-bit-below : (m i l : ℕ) → m < 2 ^ l → bit m i ≡ 1 → i < l
-bit-below m i l h e = go (decLt i l)
-  where
-    go : Dec (i < l) → i < l
-    go (yes q) = q
-    go (no q) = absurd (omega (arith, e, bit-above m i l h (omega arith)))
+use Rattle.borrow_analysis.specs.WalkLaws.{Once, collect-once, All, collect-only, Visits, over-visits, collect-visits}
 
 -- ---- an accepted graph's triples
 
@@ -49,12 +39,9 @@ live-lt g w = w .small
 -- more than one triple leads only to a node below the count
 many-below : (g : Given) → Fine g → (x : ℕ) → 1 < incoming (graphOf g .triples) x → x < graphOf g .count
 unfolding graphOf
-many-below g w x h = go (decLt x (g .count))
-  where
-    go : Dec (x < g .count) → x < g .count
-    go (yes l) = l
-    go (no n) =
-        absurd (omega (arith, h, incoming-out (length (g .numbers) / 3) 0 (g .count) (tripleAt (g .numbers)) x (λ k l. w .inside .children k (omega arith)) (omega arith)))
+many-below g w x h =
+    by-lt x (g .count) (λ l. l)
+    (λ l. absurd (omega (arith, h, incoming-out (length (g .numbers) / 3) 0 (g .count) (tripleAt (g .numbers)) x (λ k q. w .inside .children k (omega arith)) l)))
 
 -- ---- in use
 
@@ -68,17 +55,26 @@ in-use-decides g w n = record {
 pub in-use-means : (g : Given) (node : ℕ) → checkAsked g node ≡ Accepted → Decides (isInUse (graphOf g) node) (InUse (graphOf g) node)
 in-use-means g node e = in-use-decides g (accepted-asked g node e .0) node
 
+-- a node in use is below the count: one at or above the next graph's count is not in use there
+pub in-use-below : (g : Given) → Fine g → (n : ℕ) → InUse (graphOf g) n → n < graphOf g .count
+in-use-below g w n r = go (r .path) (r .has)
+  where
+    go : {n x : ℕ} → Descends (graphOf g .triples) n x → bit (graphOf g .live) x ≡ 1 → n < graphOf g .count
+    go (same {n = n}) h = bit-below (graphOf g .live) n (graphOf g .count) (live-lt g w) h
+    go (down t i p) h = parents-lt g w t i
+
 -- ---- conditional
 
 conditional-sound : (g : Graph) (n : ℕ) → isConditional g n ≡ true → Conditional g n
 unfolding isConditional above
 conditional-sound g n e =
     let r = above-reaches (g .count) (g .triples) (manyIn (g .count) 0 (g .triples)) n (holds-true _ n e) in
-    record { node = r .node; path = r .path; many = go (r .node) (true-holds _ (r .node) (r .has)) (decLt (r .node) (g .count)) }
+    record { node = r .node; path = r .path; many = from-many (r .node) (true-holds _ (r .node) (r .has)) }
   where
-    go : (x : ℕ) → holds (manyIn (g .count) 0 (g .triples)) x ≡ true → Dec (x < g .count) → 1 < incoming (g .triples) x
-    go x h (yes l) = ltb-true 1 (incoming (g .triples) x) (sym (many-bits (g .count) 0 x (g .triples) (omega arith) (omega arith)) ∙ h)
-    go x h (no k) = absurd (true≢false (sym h ∙ many-out (g .count) 0 x (g .triples) (λ a b. k (omega arith))))
+    from-many : (x : ℕ) → holds (manyIn (g .count) 0 (g .triples)) x ≡ true → 1 < incoming (g .triples) x
+    from-many x h =
+        by-lt x (g .count) (λ l. ltb-true 1 (incoming (g .triples) x) (sym (many-bits (g .count) 0 x (g .triples) (omega arith) (omega arith)) ∙ h))
+        (λ l. absurd (true≢false (sym h ∙ many-out (g .count) 0 x (g .triples) (λ a b. omega arith))))
 
 conditional-complete : (g : Graph) (n : ℕ) → ((t : Triple) → List·Memᴰ t (g .triples) → t .parent < g .count) → ((x : ℕ) → 1 < incoming (g .triples) x → x < g .count) → Conditional g n → isConditional g n ≡ true
 unfolding isConditional above

@@ -1,9 +1,8 @@
--- What the proofs of the visits in lent bytes cite. Assumes nothing.
+-- The visits in lent bytes: room for a node more, one visit, the loop over the triples, and the walk of the nodes to start from. Assumes nothing.
 use mathlib.Core.Path.{_≡_, refl, sym, ap, ap₂, _∙_, subst}
-use mathlib.Core.Logic.{⊎-elim}
-use mathlib.Core.Bool.{Bool, true, false, cond, _||_}
-use mathlib.Core.List.{List, [], _∷_, _++_, List·Memᴰ, List·Memᴰ·not-nil, List·Memᴰ·cases-cons}
-use Prim.Native.Nat.{ℕ, zero, suc, _+_, _-_, _*_, _/_, _^_, _≤_, _<_}
+use mathlib.Core.Bool.{false, _||_}
+use mathlib.Core.List.{List, [], _∷_, _++_, List·Memᴰ}
+use Prim.Native.Nat.{ℕ, _+_, _-_, _*_, _/_, _^_, _≤_, _<_}
 use native.Mathlib.Nat.{le-refl, sub-zero}
 use native.Mathlib.Numerals.{add-one}
 use native.Mathlib.Omega.{arith}
@@ -13,23 +12,18 @@ use lib.Pow.{pow-lt, pow-pos, pow-mono}
 use lib.Seq.{take-suc-set, drop-set-lt, drop-drop, take-at, drop-at, length-take-le}
 use Rattle.base.specs.Lists.{tab, over}
 use Rattle.base.specs.ListLaws.{or-false}
-use Rattle.dataflow_domains.specs.Mask.{bit, holds, union, minus, Sub}
+use Rattle.base.specs.TabLaws.{in-tab-by}
+use Rattle.dataflow_domains.specs.Mask.{holds, union, minus}
 use Rattle.dataflow_domains.specs.Members.{members, Lowest}
-use Rattle.dataflow_domains.specs.MemberLaws.{lowest-lt, walk-more, walk-end}
-use Rattle.dataflow_domains.specs.MaskLaws.{union-lt, minus-lt, holds-false, ones-mono, ones-zero}
+use Rattle.dataflow_domains.specs.MemberLaws.{lowest-lt}
+use Rattle.dataflow_domains.specs.WalkLaws.{members-next, members-end}
+use Rattle.dataflow_domains.specs.MaskLaws.{union-comm, ones-insert, union-lt, minus-lt, holds-false, ones-mono, ones-zero}
 use Rattle.borrow_analysis.specs.Graph.{Triple, tripleAt, triplesOf}
 use Rattle.borrow_analysis.specs.Borrows.{Seen, getParents, collectAncestors}
 use Rattle.borrow_analysis.specs.Parts.{Inside, seenOf, Room, Came}
-use Rattle.borrow_analysis.specs.UpwardLaws.{union-comm}
-use Rattle.borrow_analysis.specs.AncestorLaws.{ones-insert, listing, Fair, Grows, collect-grows, collect-new, up-more, up-same, up-end}
+use Rattle.borrow_analysis.specs.AncestorLaws.{listing, Fair, Grows, collect-grows, collect-new, up-more, up-same, up-end}
 
 -- ---- a triple of a list is one of those handed over
-
-pub in-tab-by : {A : Type 0} (n i : ℕ) (f : ℕ → A) (x : A) → List·Memᴰ x (tab n i f) → (k : ℕ) × (k < i + n) × (f k ≡ x)
-unfolding tab
-in-tab-by zero i f x m = absurd (List·Memᴰ·not-nil m)
-in-tab-by (suc n) i f x m =
-    ⊎-elim (λ e. (i, omega arith, sym e)) (λ t. let r = in-tab-by n (suc i) f x t in (r .0, omega (arith, r .1), r .2)) (List·Memᴰ·cases-cons m)
 
 pub parents-below : {c : ℕ} {xs : List ℕ} → Inside c xs → (t : Triple) → List·Memᴰ t (triplesOf xs) → t .parent < c
 parents-below {c} {xs} w t m = let r = in-tab-by (length xs / 3) 0 (tripleAt xs) t m in subst (λ (u : Triple). u .parent < c) (r .2) (w .parents (r .0) (omega (arith, r .1)))
@@ -48,14 +42,6 @@ room-more n w h e = omega (arith, room-fits (room-list n w h e))
 room-fair : {c m k : ℕ} (out : List ℕ) → c ≤ length out → Room c m k → Fair c (seenOf m k out)
 room-fair {c} {m} {k} out h w = record { each = length-take-le k out (omega (arith, room-fits w)) ∙ w .ones; small = w .small }
 
--- ---- nothing is visited
-
-pub came-same : {c m k : ℕ} (st : Seen) (out : List ℕ) → c ≤ length out → Room c m k → seenOf m k out ≡ st → Came st m k out out
-came-same {c} {m} {k} st out h w e =
-    let size : length (take k out) ≡ k = length-take-le k out (omega (arith, room-fits w)) in
-    subst (λ (s : Seen). Came s m k out out) e
-    (record { set = refl; count = sym size; wrote = sym (ap (λ (j : ℕ). take k out ++ drop j out) size ∙ take-append-drop k out) })
-
 -- ---- a node is listed
 
 pub seen-list : (m k n : ℕ) (out : List ℕ) → k < length out → seenOf (union m (2 ^ n)) (k + 1) (set out k n) ≡ listing (seenOf m k out) n
@@ -73,6 +59,7 @@ module _ {m k n m′ k′ : ℕ} (out out′ : List ℕ) (room : Room (length ou
 
 -- ---- the visits of the parents: from k₀ nodes in `old` to k in `out`, and the rest as it was
 
+-- c is the number of nodes, for each of which there is room
 pub record Going (c k₀ : ℕ) (old : List ℕ) (m k : ℕ) (out : List ℕ) : Type 0 where
   pub room : Room c m k
   pub wide : c ≤ length old
@@ -119,6 +106,10 @@ going-all {c} {k₀} {m} {k} {old} {out} st w e =
     let size : length (take k out) ≡ k = length-take-le k out (omega (arith, w .long, w .wide, room-fits (w .room))) in
     subst (λ (x : Seen). Came x m k old out) e
     (record { set = refl; count = sym size; wrote = sym (ap (λ (i : ℕ). take k out ++ drop i old) size ∙ ap (λ (l : List ℕ). take k out ++ l) (sym (w .rest)) ∙ take-append-drop k out) })
+
+-- nothing is visited
+pub came-same : {c m k : ℕ} (st : Seen) (out : List ℕ) → c ≤ length out → Room c m k → seenOf m k out ≡ st → Came st m k out out
+came-same st out h w e = going-all st (going-none out w h) e
 
 -- what a store at one of the listed places overwrote does not matter
 came-before : {m k : ℕ} {out : List ℕ} (st : Seen) (before : List ℕ) (j n : ℕ) → Came st m k (set before j n) out → j < k → Came st m k before out
@@ -172,14 +163,6 @@ module _ (xs : List ℕ) (used depth x m k : ℕ) (before : List ℕ) {m₀ k₀
       (omega (arith, count, w .going .more))
 
 -- ---- the visits from each node of a set
-
-members-next : {B : Type 0} (f : B → ℕ → B) (st : B) (d left n : ℕ) → Lowest left n → left < 2 ^ d → over f st (members d left) ≡ over f (f st n) (members d (minus left (2 ^ n)))
-unfolding over
-members-next f st d left n low h = ap (over f st) (walk-more d left n low h)
-
-members-end : {B : Type 0} (f : B → ℕ → B) (st : B) (d left : ℕ) → left ≡ 0 → over f st (members d left) ≡ st
-unfolding over
-members-end f st d left e = ap (λ (x : ℕ). over f st (members d x)) e ∙ ap (over f st) (walk-end d 0)
 
 -- the walk of the set, when the nodes of `left` are to come
 pub record Walk (xs : List ℕ) (used d from : ℕ) (old : List ℕ) (left m k : ℕ) (out : List ℕ) : Type 0 where

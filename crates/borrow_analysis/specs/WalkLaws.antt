@@ -1,20 +1,20 @@
 -- Which nodes the visits list: each once, none but those that the walk reaches, and all of these. Assumes nothing.
 use mathlib.Core.Path.{_≡_, refl, sym, ap, _∙_, subst}
 use mathlib.Core.Logic.{_⊎_, inl, inr, ⊎-elim}
-use mathlib.Core.Bool.{Bool, true, false, _||_}
+use mathlib.Core.Bool.{true, false, _||_}
 use mathlib.Core.List.{List, [], _∷_, _++_, List·Memᴰ, List·Memᴰ·head, List·Memᴰ·tail, List·Memᴰ·not-nil, List·Memᴰ·cases-cons, List·Memᴰ·append-cases, List·Memᴰ·eq-of-singleton, Memᴰ·append-left, Memᴰ·append-right}
-use Prim.Native.Nat.{ℕ, zero, suc, _+_, _-_, _^_, _≤_, _<_}
+use Prim.Native.Nat.{ℕ, zero, suc, _+_, _^_, _≤_, _<_}
 use native.Mathlib.Omega.{arith}
 use lib.Count.{ones}
 use lib.Pow.{pow-lt}
 use Rattle.base.specs.Lists.{over}
 use Rattle.base.specs.ListLaws.{by-test, by-eq, or-false, or-true, Distinct, one, distinct-snoc}
+use Rattle.base.specs.TabLaws.{over-keeps}
 use Rattle.dataflow_domains.specs.Mask.{bit, holds, union, Sub}
-use Rattle.dataflow_domains.specs.MaskLaws.{bit-union, bit-self, bit-other, bit-lt, sub-refl, sub-trans, sub-at, ones-mono, ones-bound, union-lt, holds-true, holds-false, true-holds}
+use Rattle.dataflow_domains.specs.MaskLaws.{union-comm, ones-insert, bit-union, bit-self, bit-other, bit-lt, sub-refl, sub-trans, sub-at, ones-mono, ones-bound, union-lt, holds-true, holds-false}
 use Rattle.borrow_analysis.specs.Graph.{Triple}
 use Rattle.borrow_analysis.specs.Borrows.{Seen, getParents, collectAncestors}
-use Rattle.borrow_analysis.specs.AncestorLaws.{over-keeps, in-parents, parents-in, ones-insert, listing, Fair, Grows, list-grows, collect-grows}
-use Rattle.borrow_analysis.specs.UpwardLaws.{union-comm}
+use Rattle.borrow_analysis.specs.AncestorLaws.{in-parents, parents-in, listing, Fair, Grows, list-grows}
 
 -- ---- each once: the list has the nodes of the mask
 

@@ -12,8 +12,8 @@ ghost use Rattle.dataflow_domains.specs.Sets.{mask};
 ghost use Rattle.borrow_analysis.specs.Graph.{triplesOf};
 ghost use Rattle.borrow_analysis.specs.Borrows.{collectAncestors};
 ghost use Rattle.borrow_analysis.specs.Parts.{Inside, seenOf, Room, Came};
-use crate::upward::child_at;
-use crate::upward::parent_at;
+use crate::triples::child_at;
+use crate::triples::parent_at;
 use dataflow_domains::LiveVarState;
 
 // The nodes visited, and how many are listed.

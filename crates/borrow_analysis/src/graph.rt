@@ -56,7 +56,7 @@ fn none_from(s: LiveVarState, from: usize) -> bool
     true
 }
 
-// Check 12 of one graph.
+// Check 12 of one graph. The triples do not come into it.
 fn nodes_ok(nodes: u32, live: u64) -> bool
     ensures { λ r. ⌜ r ≡ nodesOk (given nodes live []) ⌝ }
 {
@@ -79,7 +79,7 @@ fn precedes(p: u32, c: u32, e: u32, q: u32, d: u32, f: u32) -> bool
     e < f
 }
 
-// Check 13 of one triple: its nodes are below the count, and it is above the one before it.
+// Check 13 of one triple: its nodes are below the count, and it is above the one before it. The live nodes do not come into it, nor below: 0 stands for them.
 fn triple_ok(nodes: u32, triples: &[u32], i: usize) -> bool
     requires { ⌜ i < length (now triples) / 3 ⌝ }
     ensures { λ r. ⌜ r ≡ tripleOk (given nodes 0 (now (triples .entry))) i ⌝ }

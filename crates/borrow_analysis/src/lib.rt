@@ -6,20 +6,21 @@ ghost use Rattle.borrow_analysis.specs.Graph.{given};
 ghost use Rattle.borrow_analysis.specs.Borrows.{inUseReply, conditionalReply, dyingReply};
 ghost use Rattle.borrow_analysis.specs.Answers.{askedOf, dyingOf};
 use crate::ancestors::collect_from;
-use crate::answers::Asked;
-use crate::answers::Dying;
+pub use crate::answers::Asked;
+pub use crate::answers::Dying;
 use crate::graph::Checked;
 use crate::graph::check_asked;
 use crate::graph::check_graphs;
 use crate::graph::live_set;
+use crate::triples::many_in;
 use crate::upward::above;
-use crate::upward::many_in;
 use base::Refusal;
 
 pub mod answers; // answers.rt: what the calls answer
 pub mod graph; // graph.rt: the live nodes as a set, and checks 12 to 14
-pub mod ancestors; // ancestors.rt: the visits of dying nodes
+pub mod triples; // triples.rt: the triples of an accepted graph
 pub mod upward; // upward.rt: up from a set of nodes
+pub mod ancestors; // ancestors.rt: the visits of dying nodes
 
 // Whether a node or a descendant of it is live.
 pub fn in_use(nodes: u32, live: u64, triples: &[u32], node: u32) -> Asked
@@ -29,10 +30,7 @@ pub fn in_use(nodes: u32, live: u64, triples: &[u32], node: u32) -> Asked
         return Asked::Refused(r);
     }
     let used = above(triples, live_set(live), nodes as usize);
-    if used.has(node as u8) {
-        return Asked::Yes;
-    }
-    Asked::No
+    Asked::of(used.has(node as u8))
 }
 
 // Whether more than one triple leads to a node or to a descendant of it.
@@ -43,10 +41,7 @@ pub fn conditional(nodes: u32, live: u64, triples: &[u32], node: u32) -> Asked
         return Asked::Refused(r);
     }
     let conditionals = above(triples, many_in(triples), nodes as usize);
-    if conditionals.has(node as u8) {
-        return Asked::Yes;
-    }
-    Asked::No
+    Asked::of(conditionals.has(node as u8))
 }
 
 // The nodes that die from this graph to the next: how many, and each as one lent byte.

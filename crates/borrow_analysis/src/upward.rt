@@ -1,31 +1,13 @@
 // Up from a set of nodes, over the triples. Assumes nothing.
 ghost use mathlib.Core.Path.{_≡_};
-ghost use Prim.Native.Nat.{_+_, _*_, _/_, _<_};
-ghost use lib.ListN.{length, getD};
 ghost use Rattle.base.specs.Sizes.{maxLocals};
 ghost use Rattle.dataflow_domains.specs.Sets.{mask};
 ghost use Rattle.borrow_analysis.specs.Graph.{triplesOf};
 ghost use Rattle.borrow_analysis.specs.Borrows.{parentsIn, upward};
-ghost use Rattle.borrow_analysis.specs.Parts.{Inside, Many};
+ghost use Rattle.borrow_analysis.specs.Parts.{Inside};
+use crate::triples::child_at;
+use crate::triples::parent_at;
 use dataflow_domains::LiveVarState;
-
-// The parent of triple i.
-pub fn parent_at(triples: &[u32], i: usize) -> u8
-    requires { ⌜ Inside maxLocals (now triples) × (i < length (now triples) / 3) ⌝ }
-    ensures { λ r. ⌜ (r ≡ getD (now (triples .entry)) (3 * i) 0) × (r < maxLocals) ⌝ }
-{
-    let at = 3 * i;
-    triples[at] as u8
-}
-
-// The child of triple i.
-pub fn child_at(triples: &[u32], i: usize) -> u8
-    requires { ⌜ Inside maxLocals (now triples) × (i < length (now triples) / 3) ⌝ }
-    ensures { λ r. ⌜ (r ≡ getD (now (triples .entry)) (3 * i + 1) 0) × (r < maxLocals) ⌝ }
-{
-    let at = 3 * i + 1;
-    triples[at] as u8
-}
 
 // A set with the parents, over one triple, of its nodes.
 fn parents_in(triples: &[u32], set: LiveVarState) -> LiveVarState
@@ -44,7 +26,7 @@ fn parents_in(triples: &[u32], set: LiveVarState) -> LiveVarState
     grown
 }
 
-// The nodes that are in a set, or have a descendant in it, over at most `times` triples. Where one turn adds none, no other does.
+// The nodes that are in a set or have a descendant in it, at most `times` triples away. Where one turn adds none, no other does.
 pub fn above(triples: &[u32], set: LiveVarState, times: usize) -> LiveVarState
     requires { ⌜ Inside maxLocals (now triples) ⌝ }
     ensures { λ r. ⌜ mask r ≡ upward times (triplesOf (now (triples .entry))) (mask set) ⌝ }
@@ -60,24 +42,4 @@ pub fn above(triples: &[u32], set: LiveVarState, times: usize) -> LiveVarState
         k += 1;
     }
     reached
-}
-
-// The nodes to which more than one triple leads.
-pub fn many_in(triples: &[u32]) -> LiveVarState
-    requires { ⌜ Inside maxLocals (now triples) ⌝ }
-    ensures { λ r. ⌜ Many (triplesOf (now (triples .entry))) (mask r) ⌝ }
-{
-    let n = triples.len() / 3;
-    let mut once = LiveVarState::empty();
-    let mut many = LiveVarState::empty();
-    let mut i = 0;
-    while i < n {
-        let child = child_at(triples, i);
-        if once.has(child) {
-            many = many.insert(child);
-        }
-        once = once.insert(child);
-        i += 1;
-    }
-    many
 }

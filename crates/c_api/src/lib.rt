@@ -7,11 +7,19 @@ ghost use Rattle.base.specs.Refusals.{left};
 ghost use Rattle.borrow_analysis.specs.Graph.{given};
 ghost use Rattle.borrow_analysis.specs.Borrows.{inUseReply, conditionalReply, dyingReply};
 ghost use Rattle.borrow_analysis.specs.Answers.{askedOf, dyingOf};
+ghost use Rattle.stackless_control_flow_graph.specs.Blocks.{flowReply};
+ghost use Rattle.stackless_control_flow_graph.specs.Flow.{resultIs};
+ghost use Rattle.livevar_analysis.specs.Analysis.{liveReply};
+ghost use Rattle.livevar_analysis.specs.LiveCall.{liveResult, LeastLive};
 use base::Refusal;
 use borrow_analysis::answers::Asked;
 use borrow_analysis::answers::Dying;
+use livevar_analysis::Live;
+use livevar_analysis::analysis::live;
 use sheet::Checked;
 use sheet::check::check;
+use stackless_control_flow_graph::Flow;
+use stackless_control_flow_graph::forward::flow;
 
 // A refusal: its number and its place.
 fn refused(f: Refusal) -> u64
@@ -89,4 +97,41 @@ pub extern "C" fn sorzibelu_dying(
         next_triples,
         out,
     ))
+}
+
+fn blocks(f: Flow) -> u64
+    ensures { λ r. ⌜ r ≡ packed (resultIs f) ⌝ }
+{
+    match f {
+        Flow::Blocks(n) => n as u64,
+        Flow::Refused(f) => refused(f),
+    }
+}
+
+fn taken(l: Live) -> u64
+    ensures { λ r. ⌜ r ≡ packed (liveResult l) ⌝ }
+{
+    match l {
+        Live::Taken(n) => n as u64,
+        Live::Refused(f) => refused(f),
+    }
+}
+
+// How many blocks, and six numbers for each at the front of `table`.
+#[no_mangle]
+pub extern "C" fn sorzibelu_flow(sheet: &[u8], table: &mut [u16]) -> u64
+    ensures { λ r. ⌜ r ≡ packed (resultOf (flowReply (now (sheet .entry)) (length (now (table .entry))))) ⌝ }
+    ensures { λ _. ⌜ now (table .exit) ≡ left (flowReply (now (sheet .entry)) (length (now (table .entry)))) (now (table .entry)) ⌝ }
+{
+    blocks(flow(sheet, table))
+}
+
+// How many blocks were taken, and the sets before and after each instruction at the front of `sets`.
+#[no_mangle]
+pub extern "C" fn sorzibelu_live(sheet: &[u8], sets: &mut [u8]) -> u64
+    ensures { λ r. ⌜ r ≡ packed (resultOf (liveReply (now (sheet .entry)) (length (now (sets .entry))))) ⌝ }
+    ensures { λ _. ⌜ now (sets .exit) ≡ left (liveReply (now (sheet .entry)) (length (now (sets .entry)))) (now (sets .entry)) ⌝ }
+    ensures { λ _. ⌜ (resultOf (liveReply (now (sheet .entry)) (length (now (sets .entry)))) .number ≡ 0 → LeastLive (now (sheet .entry)) (now (sets .exit))) ⌝ }
+{
+    taken(live(sheet, sets))
 }

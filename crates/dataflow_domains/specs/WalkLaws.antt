@@ -8,6 +8,7 @@ use borrow.Author.Tests.{eq-eqb, ne-eqb}
 use lib.Bits.{bitAnd}
 use lib.Count.{ones, ones-le, trailingZeros}
 use lib.ListN.{length, drop, length-drop}
+use Rattle.base.specs.Lists.{over}
 use Rattle.base.specs.ListLaws.{by-eq}
 use Rattle.base.specs.WriteLaws.{Front, drop-front}
 use Rattle.dataflow_domains.specs.Mask.{minus}
@@ -48,6 +49,16 @@ pub walked-all : {k m left n : ℕ} → Walked k m left n → left ≡ 0 → n �
 walked-all {k} {m} {left} {n} w e =
     let none : drop n (members k m) ≡ [] = w .rest ∙ ap (members k) e ∙ walk-end k 0 in
     omega (arith, w .long, sym (length-drop n (members k m)) ∙ ap length none)
+
+-- ---- a step for each member
+
+pub members-next : {B : Type 0} (f : B → ℕ → B) (st : B) (d left n : ℕ) → Lowest left n → left < 2 ^ d → over f st (members d left) ≡ over f (f st n) (members d (minus left (2 ^ n)))
+unfolding over
+members-next f st d left n low h = ap (over f st) (walk-more d left n low h)
+
+pub members-end : {B : Type 0} (f : B → ℕ → B) (st : B) (d left : ℕ) → left ≡ 0 → over f st (members d left) ≡ st
+unfolding over
+members-end f st d left e = ap (λ (x : ℕ). over f st (members d x)) e ∙ ap (over f st) (walk-end d 0)
 
 -- ---- the walk by trailing zeros
 

@@ -1,3 +1,4 @@
 // The text of livelist, as bytes in a lent slice. Assumes nothing.
-pub mod numbers;
-pub mod text;
+pub mod numbers; // numbers.rt: decimal, and a set in hex
+pub mod text; // text.rt: the lines, the count and the refusal
+pub mod livelist; // livelist.rt: what the program livelist prints

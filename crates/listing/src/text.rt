@@ -10,10 +10,17 @@ ghost use Rattle.listing.specs.Text.{textOf, refusedText, lineBytes, tex
 ghost use Rattle.base.specs.PutLaws.{Put};
 use crate::numbers::put_decimal;
 use crate::numbers::put_set;
+use base::MAX_INSTRUCTIONS;
 use base::SET_BYTES;
 
 // The bytes of an instruction's two sets.
 const PAIR_BYTES: usize = 2 * SET_BYTES;
+
+// A line: four digits of the offset, two sets, three bytes between and behind.
+const LINE_BYTES: usize = 4 + 4 * SET_BYTES + 3;
+
+// The longest text.
+pub const TEXT_BYTES: usize = MAX_INSTRUCTIONS * LINE_BYTES + 17;
 
 // Copies bytes to `at`; the result is the place behind them.
 fn put_bytes(s: &[u8], out: &mut [u8], at: usize) -> usize

@@ -1,4 +1,4 @@
--- What the engine's loops are to the definitions: the rules of a block. Assumes nothing.
+-- What the engine's loops are to the definitions: a rule, the rules of a block, handing on, and one key. Assumes nothing.
 use mathlib.Core.Path.{_≡_, refl, sym, ap, ap₂, _∙_, subst}
 use mathlib.Core.Logic.{_⊎_, inl, inr}
 use mathlib.Core.Bool.{Bool, true, false, cond, _&&_}

@@ -20,3 +20,4 @@ pub mod LiveCall
 pub mod LiveCallLaws
 pub mod Prepared
 pub mod PreparedLaws
+pub mod LookupLaws

@@ -2,13 +2,16 @@
 use mathlib.Core.Path.{_≡_, refl, sym, ap, ap₂, _∙_, subst}
 use mathlib.Core.Bool.{true, false, true≢false}
 use mathlib.Core.List.{List, [], _∷_, _++_, map, List·Memᴰ, List·Memᴰ·head, List·Memᴰ·tail}
-use Prim.Native.Nat.{ℕ, suc, _+_, _-_, _*_, _<_}
+use Prim.Native.Nat.{ℕ, suc, _+_, _-_, _*_, _≤_, _<_}
 use native.Mathlib.Nat.{zero-add}
 use native.Mathlib.Omega.{arith}
-use lib.ListN.{getD, length}
+use lib.ListN.{getD, length, drop, length-append}
 use Rattle.base.specs.Sizes.{setBytes}
-use Rattle.base.specs.Bytes.{part}
-use Rattle.base.specs.Refusals.{Accepted}
+use Rattle.base.specs.Bytes.{part, bytesOf}
+use Rattle.dataflow_domains.specs.ByteLaws.{bytes-length}
+use Rattle.base.specs.PartLaws.{gather-length}
+use Rattle.base.specs.Refusals.{Accepted, Refused, Reply, No, Done, Result, resultOf, left}
+use Rattle.base.specs.ReplyLaws.{reply-refused, reply-short, reply-done}
 use Rattle.base.specs.ListLaws.{by-eq, getD-tab}
 use Rattle.dataflow_domains.specs.Mask.{bit, unions, Sub}
 use Rattle.dataflow_domains.specs.MaskLaws.{sub-at}
@@ -20,10 +23,11 @@ use Rattle.sheet.specs.Layout.{codeOf, localsOf}
 use Rattle.sheet.specs.Checks.{checkSheet}
 use Rattle.sheet.specs.CheckLaws.{code-sound}
 use Rattle.livevar_analysis.specs.Live.{execute, Obeys}
-use Rattle.livevar_analysis.specs.Analysis.{LiveVarInfo, noInfo, Analyzed, analyze, liveBytes}
+use Rattle.livevar_analysis.specs.Analysis.{LiveVarInfo, noInfo, Analyzed, analyze, liveBytes, liveReply}
 use Rattle.livevar_analysis.specs.Term3.{Term3, term3}
 use Rattle.livevar_analysis.specs.Output.{infoIn, infosOf}
 use Rattle.livevar_analysis.specs.OutputLaws.{live-read}
+use Rattle.livevar_analysis.specs.Prepared.{LiveWritten}
 use Rattle.livevar_analysis.specs.LiveCall.{beforeAt, afterAt, LeastLive}
 
 -- ---- sets that agree at every offset obey alike
@@ -76,3 +80,45 @@ module _ (s : List ℕ) (e : checkSheet s ≡ Accepted) (z : List ℕ) where
     before = λ b a ob k i h x. sub-at (term3 s e .least b a ob k h .0) i (sym (ap (λ (m : ℕ). bit m i) (before-is k h)) ∙ x);
     after = λ b a ob k i h x. sub-at (term3 s e .least b a ob k h .1) i (sym (ap (λ (m : ℕ). bit m i) (after-is k h)) ∙ x);
   }
+
+-- ---- the three replies
+
+-- refused, and nothing changed
+pub record LiveRefused (s out : List ℕ) (n p : ℕ) : Type 0 where
+  pub result : record { number = n; value = p } ≡ resultOf (liveReply s (length out))
+  pub same : out ≡ left (liveReply s (length out)) out
+
+no-live : (s out : List ℕ) (n p : ℕ) → liveReply s (length out) ≡ No n p → LiveRefused s out n p
+unfolding resultOf left
+no-live s out n p e = record { result = sym (ap resultOf e); same = sym (ap (λ (x : Reply). left x out) e) }
+
+pub live-refused : (s out : List ℕ) (n p : ℕ) → checkSheet s ≡ Refused n p → LiveRefused s out n p
+unfolding liveReply
+live-refused s out n p e = no-live s out n p (reply-refused (length out) (2 * setBytes * length (codeOf s)) _ e)
+
+pub live-short : (s out : List ℕ) → checkSheet s ≡ Accepted → length out < 2 * setBytes * length (codeOf s) → LiveRefused s out 9 0
+unfolding liveReply
+live-short s out e h = no-live s out 9 0 (reply-short _ e h)
+
+-- as many bytes as the sets of each instruction have
+live-length : (xs : List LiveVarInfo) → length (liveBytes xs) ≡ 2 * setBytes * length xs
+unfolding liveBytes
+live-length xs =
+    gather-length (2 * setBytes) (λ (x : LiveVarInfo). bytesOf setBytes (x .before) ++ bytesOf setBytes (x .after))
+    (λ x. length-append (bytesOf setBytes (x .before)) (bytesOf setBytes (x .after)) ∙ (omega (arith, bytes-length setBytes (x .before), bytes-length setBytes (x .after)))) xs
+
+-- done
+pub record LiveDone (s out : List ℕ) (r : ℕ) (out′ : List ℕ) : Type 0 where
+  pub result : record { number = 0; value = r } ≡ resultOf (liveReply s (length out))
+  pub written : out′ ≡ left (liveReply s (length out)) out
+  pub least : LeastLive s out′
+
+pub live-done : (s out : List ℕ) (r : ℕ) (out′ : List ℕ) → checkSheet s ≡ Accepted → 2 * setBytes * length (codeOf s) ≤ length out → LiveWritten s r out out′ → LiveDone s out r out′
+unfolding liveReply resultOf left
+live-done s out r out′ e h w =
+    let d = reply-done {lent = length out} (Done (analyze (codeOf s) (localsOf s) .taken) (liveBytes (analyze (codeOf s) (localsOf s) .info))) e h in
+    record {
+      result = ap (λ (x : ℕ). record { number = 0; value = x }) (w .taken) ∙ sym (ap resultOf d);
+      written = w .written ∙ ap (λ (x : ℕ). liveBytes (analyze (codeOf s) (localsOf s) .info) ++ drop x out) (sym (live-length (analyze (codeOf s) (localsOf s) .info) ∙ ap (λ (x : ℕ). 2 * setBytes * x) (term3 s e .count))) ∙ sym (ap (λ (x : Reply). left x out) d);
+      least = subst (LeastLive s) (sym (w .written)) (least-live s e _);
+    }

@@ -8,11 +8,35 @@ use Rattle.base.specs.Refusals.{Accepted}
 use Rattle.sheet.specs.Layout.{codeOf, localsOf}
 use Rattle.sheet.specs.Checks.{checkSheet}
 use Rattle.stackless_control_flow_graph.specs.Blocks.{lowerOf, keyed, keyOf}
-use Rattle.stackless_control_flow_graph.specs.Arrays.{Marked}
+use Rattle.stackless_control_flow_graph.specs.Arrays.{Marked, Cut, Numbered}
 use Rattle.livevar_analysis.specs.Analysis.{Analyzed, analyze, liveBytes}
-use Rattle.livevar_analysis.specs.Engine.{Tables}
+use Rattle.livevar_analysis.specs.Engine.{Bounds, Tables}
+use Rattle.livevar_analysis.specs.Rules.{Ruled, RuleRoom}
 
--- of sheet s
+-- the rules of sheet s
+pub record RulesOf (s kills gens assigns : List ℕ) : Type 0 where
+  pub ruled : Ruled (codeOf s) kills gens assigns
+  pub room : RuleRoom (length (codeOf s)) kills gens assigns
+
+-- the m blocks of sheet s: successors of each offset, lowers and uppers, marks, and the keys by offset of a lower and in their order
+pub record BlocksOf (s goes ls uppers marks : List ℕ) (m : ℕ) : Type 0 where
+  pub accepted : checkSheet s ≡ Accepted
+  pub cut : Cut (codeOf s) m goes ls uppers
+  pub marked : Marked (codeOf s) marks
+  pub marks-fit : length (codeOf s) ≤ length marks
+
+pub record KeysOf (s key order : List ℕ) (m : ℕ) : Type 0 where
+  pub numbered : Numbered (codeOf s) key order m
+  pub key-long : length (codeOf s) ≤ length key
+  pub order-long : m ≤ length order
+
+-- the key of each offset's block, and the upper of each key's block
+pub record LookupsOf (s order ups keys : List ℕ) : Type 0 where
+  pub bounds : Bounds (codeOf s) (keyed (codeOf s)) order ups
+  pub keys-are : (k : ℕ) → k < length (codeOf s) → getD keys k 0 ≡ keyOf (keyed (codeOf s)) (lowerOf (codeOf s) k)
+  pub keys-fit : length (codeOf s) ≤ length keys
+
+-- all of sheet s
 pub record Prepared (s kills gens assigns preds starts order ups marks keys : List ℕ) : Type 0 where
   pub accepted : checkSheet s ≡ Accepted
   pub tables : Tables (codeOf s) kills gens assigns preds starts order ups

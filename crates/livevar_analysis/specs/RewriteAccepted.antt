@@ -9,6 +9,7 @@ use borrow.Author.Tests.{lt-ltb, ltb-false}
 use lib.Dec.{eqb, leb, ltb}
 use lib.ListN.{getD, take, drop, length, replicate}
 use Rattle.stackless_bytecode.specs.declared.Bytecode.{Bytecode}
+use Rattle.base.specs.Sizes.{maxLocals}
 use Rattle.base.specs.Refusals.{Accepted}
 use Rattle.base.specs.Lists.{all, zeros}
 use Rattle.base.specs.Bytes.{part}
@@ -111,7 +112,7 @@ pub record Room (code : List Bytecode) (info : List LiveVarInfo) (refs : ℕ) : 
   pub attrs : 0 < length (addedCode code info refs) → attrFor code info refs (2 * length code) ≤ 65536
   pub few : length (transformCode code info refs) ≤ 1024
 
-module _ (l refs : ℕ) (code : List Bytecode) (info : List LiveVarInfo) (body : Body l code) (narrow : refs < 2 ^ l) (few : l ≤ 64) (room : Room code info refs) where
+module _ (l refs : ℕ) (code : List Bytecode) (info : List LiveVarInfo) (body : Body l code) (narrow : refs < 2 ^ l) (few : l ≤ maxLocals) (room : Room code info refs) where
   -- where an edge loses, there are blocks
   added-some : (e : ℕ) → e < 2 * length code → 0 < blockSize (lostRefs code info refs e) → 0 < length (addedCode code info refs)
   added-some e h w = omega (arith, added-length code info refs, total-le (2 * length code) e (λ j. blockSize (lostRefs code info refs j)) h)

@@ -26,7 +26,6 @@ use Rattle.dataflow_analysis.specs.ReceiptLaws.{at-node}
 use Rattle.stackless_bytecode.specs.declared.Bytecode.{Bytecode}
 use Rattle.stackless_bytecode.specs.SuccessorLaws.{Sound}
 use Rattle.stackless_control_flow_graph.specs.Blocks.{starts, lowers, blocksOf, keyed}
-use Rattle.stackless_control_flow_graph.specs.Backward.{nextsOf, leadsTo}
 use Rattle.livevar_analysis.specs.Live.{execute}
 use Rattle.livevar_analysis.specs.LiveLaws.{transfer-lt}
 use Rattle.livevar_analysis.specs.Analysis.{outOf, analyzeFunction}
@@ -51,9 +50,9 @@ keys-few code sound = omega (arith, keys-blocks code sound, keep-few (length cod
 
 -- the state is one of the run
 pub record Runs (code : List Bytecode) (locals : ℕ) (st : State masks) : Type 0 where
-  pub inv : general.Inv mask-laws (leadsTo (nextsOf code (keyed code))) (outOf code (keyed code)) (mask-size locals) (2 + length (keyed code)) 1 st
+  pub inv : general.Inv mask-laws (leads code) (outOf code (keyed code)) (mask-size locals) (2 + length (keyed code)) 1 st
   pub same : analyzeFunction code (keyed code) locals
-      ≡ run (leadsTo (nextsOf code (keyed code))) (outOf code (keyed code)) (takenBound (length (keyed code)) locals - st .taken) st
+      ≡ run (leads code) (outOf code (keyed code)) (takenBound (length (keyed code)) locals - st .taken) st
 
 module _ (code : List Bytecode) (locals : ℕ) (ok : Analyzable code locals) where
   small : (r : Bytecode) (m : ℕ) → List·Memᴰ r code → m < 2 ^ locals → execute r m < 2 ^ locals
@@ -65,10 +64,10 @@ module _ (code : List Bytecode) (locals : ℕ) (ok : Analyzable code locals) whe
   abbrev out : ℕ → ℕ → ℕ
   out = outOf code (keyed code)
 
-  whole : general.Graph mask-laws (leadsTo (nextsOf code (keyed code))) (outOf code (keyed code)) (2 + length (keyed code))
+  whole : general.Graph mask-laws (leads code) (outOf code (keyed code)) (2 + length (keyed code))
   whole = record { inside = graph code (ok .sound) locals small .inside }
 
-  thin : general.Narrow mask-laws (leadsTo (nextsOf code (keyed code))) (outOf code (keyed code)) 1 (2 ^ locals - 1)
+  thin : general.Narrow mask-laws (leads code) (outOf code (keyed code)) 1 (2 ^ locals - 1)
   thin = record {
     apart = narrow code (ok .sound) locals small .apart;
     small = λ k v h. sub-full locals (outOf code (keyed code) k v) (narrow code (ok .sound) locals small .small k v (sub-lt locals h (ones-lt locals)));
@@ -88,30 +87,30 @@ module _ (code : List Bytecode) (locals : ℕ) (ok : Analyzable code locals) whe
       omega (arith, mul-le-mul blocks width)
 
   pub runs-few : (st : State masks) → Runs code locals st → st .taken + length (st .list) ≤ takenBound (length (keyed code)) locals
-  runs-few st r = bound-is (st .taken + length (st .list)) (general.inv-few mask-laws (leadsTo (nextsOf code (keyed code))) out (mask-size locals) n 1 whole thin (omega arith) st (r .inv))
+  runs-few st r = bound-is (st .taken + length (st .list)) (general.inv-few mask-laws (leads code) out (mask-size locals) n 1 whole thin (omega arith) st (r .inv))
 
   pub runs-begin : Runs code locals (begin n 1)
   unfolding analyzeFunction begin
   runs-begin =
       let all : takenBound (length (keyed code)) locals ≡ takenBound (length (keyed code)) locals - 0 = omega arith in
       record {
-        inv = general.begin-inv mask-laws (leadsTo (nextsOf code (keyed code))) out (mask-size locals) n 1 whole thin (omega arith);
-        same = ap (λ (f : ℕ). run (leadsTo (nextsOf code (keyed code))) out f (begin n 1)) all;
+        inv = general.begin-inv mask-laws (leads code) out (mask-size locals) n 1 whole thin (omega arith);
+        same = ap (λ (f : ℕ). run (leads code) out f (begin n 1)) all;
       }
 
   -- a turn of the definition
-  pub runs-step : (st : State masks) (k : ℕ) (ks : List ℕ) → st .list ≡ k ∷ ks → Runs code locals st → Runs code locals (step (leadsTo (nextsOf code (keyed code))) out st k ks)
+  pub runs-step : (st : State masks) (k : ℕ) (ks : List ℕ) → st .list ≡ k ∷ ks → Runs code locals st → Runs code locals (step (leads code) out st k ks)
   runs-step st k ks e r =
       let left : takenBound (length (keyed code)) locals - st .taken ≡ suc (takenBound (length (keyed code)) locals - suc (st .taken)) = omega (arith, runs-few st r, ap length e) in
       record {
-        inv = general.step-inv mask-laws (leadsTo (nextsOf code (keyed code))) out (mask-size locals) n 1 whole thin (omega arith) st k ks e (r .inv);
-        same = r .same ∙ ap (λ (f : ℕ). run (leadsTo (nextsOf code (keyed code))) out f st) left ∙ run-more (leadsTo (nextsOf code (keyed code))) out (takenBound (length (keyed code)) locals - suc (st .taken)) st k ks e
-            ∙ ap (λ (t : ℕ). run (leadsTo (nextsOf code (keyed code))) out (takenBound (length (keyed code)) locals - t) (step (leadsTo (nextsOf code (keyed code))) out st k ks)) (sym (general.step-taken mask-laws (leadsTo (nextsOf code (keyed code))) out st k ks));
+        inv = general.step-inv mask-laws (leads code) out (mask-size locals) n 1 whole thin (omega arith) st k ks e (r .inv);
+        same = r .same ∙ ap (λ (f : ℕ). run (leads code) out f st) left ∙ run-more (leads code) out (takenBound (length (keyed code)) locals - suc (st .taken)) st k ks e
+            ∙ ap (λ (t : ℕ). run (leads code) out (takenBound (length (keyed code)) locals - t) (step (leads code) out st k ks)) (sym (general.step-taken mask-laws (leads code) out st k ks));
       }
 
   -- its end
   pub runs-done : (st : State masks) → st .list ≡ [] → Runs code locals st → analyzeFunction code (keyed code) locals ≡ st
-  runs-done st e r = r .same ∙ run-done (leadsTo (nextsOf code (keyed code))) out (takenBound (length (keyed code)) locals - st .taken) st e
+  runs-done st e r = r .same ∙ run-done (leads code) out (takenBound (length (keyed code)) locals - st .taken) st e
 
   -- ---- a turn of the code: key k is taken, and `next` is the cursor past it
 
@@ -123,8 +122,8 @@ module _ (code : List Bytecode) (locals : ℕ) (ok : Analyzable code locals) whe
 
     pub key-inside : k < n
     key-inside =
-        met-inside (leadsTo (nextsOf code (keyed code))) out n (stateAt n sets met q c) (r .inv .ok) k
-        (general.met-first mask-laws (leadsTo (nextsOf code (keyed code))) out n whole (stateAt n sets met q c) k (listOf q next) waits (r .inv .ok))
+        met-inside (leads code) out n (stateAt n sets met q c) (r .inv .ok) k
+        (general.met-first mask-laws (leads code) out n whole (stateAt n sets met q c) k (listOf q next) waits (r .inv .ok))
 
     popped-is : stateAt n sets met q next ≡ popped (stateAt n sets met q c) (listOf q next)
     popped-is =
@@ -141,7 +140,7 @@ module _ (code : List Bytecode) (locals : ℕ) (ok : Analyzable code locals) whe
     room-before : (i : ℕ) → i < length (leads code k)
         → Roomy (take i (leads code k)) (getD (leads code k) i 0) (out k (getD (stateAt n sets met q c .sets) k 0)) (popped (stateAt n sets met q c) (listOf q next))
     room-before i h e =
-        let few = general.hand-fits mask-laws (leadsTo (nextsOf code (keyed code))) out (mask-size locals) n 1 whole thin (omega arith) (stateAt n sets met q c) k (listOf q next) waits (r .inv) (take i (leads code k)) (λ p m. in-take i (leads code k) m) (getD (leads code k) i 0) (getD-in (leads code k) i 0 h) e in
+        let few = general.hand-fits mask-laws (leads code) out (mask-size locals) n 1 whole thin (omega arith) (stateAt n sets met q c) k (listOf q next) waits (r .inv) (take i (leads code k)) (λ p m. in-take i (leads code k) m) (getD (leads code k) i 0) (getD-in (leads code k) i 0 h) e in
         omega (arith, below-bound _ few, bound-le, long)
 
     room : (i : ℕ) → i < length (leads code k) → Roomy (take i (leads code k)) (getD (leads code k) i 0) (given code sets k) (stateAt n sets met q next)

@@ -3,7 +3,7 @@ ghost use mathlib.Core.Path.{_≡_};
 ghost use mathlib.Core.Bool.{cond};
 ghost use Prim.Native.Nat.{ℕ, _+_, _^_, _<_};
 ghost use lib.Dec.{eqb};
-ghost use lib.ListN.{take, length};
+ghost use lib.ListN.{take};
 ghost use Rattle.base.specs.Sizes.{maxLocals};
 ghost use Rattle.base.specs.Refusals.{Accepted};
 ghost use Rattle.dataflow_domains.specs.Mask.{setOf};

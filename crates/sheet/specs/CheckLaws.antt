@@ -2,38 +2,25 @@
 use mathlib.Core.Path.{_≡_, refl, sym, ap, _∙_}
 use mathlib.Core.Bool.{Bool, true, false, not, _&&_}
 use mathlib.Core.List.{List, _++_, List·Memᴰ, Memᴰ·append-right}
-use mathlib.Core.Option.{Option, none, some}
+use mathlib.Core.Option.{none, some}
 use Prim.Native.Nat.{ℕ, _-_, _*_, _/_, _≤_, _<_}
 use native.Mathlib.Omega.{arith}
 use borrow.Author.Tests.{leb-true, ltb-true}
 use lib.Dec.{leb, ltb}
 use lib.ListN.{length}
 use Rattle.stackless_bytecode.specs.declared.Bytecode.{Bytecode}
-use Rattle.base.specs.Refusals.{Answer, Accepted, refuse, whole}
+use Rattle.base.specs.Refusals.{Accepted}
 use Rattle.base.specs.Lists.{gather, has, firstBad}
 use Rattle.sheet.specs.Layout.{blockAt, countOf, localsOf, recordBlocks, codeOf, instructionAt}
 use Rattle.stackless_bytecode.specs.Kinds.{dstsOf, srcsOf, nop, at, fallsThrough, branchDests, labelOf}
 use Rattle.stackless_bytecode.specs.Successors.{labelFrom, labelOffset}
 use Rattle.sheet.specs.Checks.{lengthOk, blockOk, headingOk, placeOk, localsOk, fresh, namesOk, checkForm, checkCode, checkSheet}
 use Rattle.stackless_bytecode.specs.SuccessorLaws.{Sound, label-lt}
+use Rattle.base.specs.RefusalLaws.{passed, whole-true}
 use Rattle.base.specs.SearchLaws.{none-all}
 use Rattle.base.specs.ListLaws.{and-true, not-true, all-in, has-in, in-gather, in-getD, length-tab}
 
 -- ---- an accepted sheet passed each check
-
-pub record Passed (found : Option ℕ) (rest : Answer) : Type 0 where
-  pub clear : found ≡ none
-  pub next : rest ≡ Accepted
-
-passed : (num : ℕ) (found : Option ℕ) (rest : Answer) → refuse num found rest ≡ Accepted → Passed found rest
-unfolding refuse
-passed num none rest e = record { clear = refl; next = e }
-passed num (some p) rest e = absurd (let z : _≡_ {A = ℕ} 0 1 = cc in omega arith)
-
-whole-true : (b : Bool) → whole b ≡ none → b ≡ true
-unfolding whole
-whole-true true e = refl
-whole-true false e = absurd (let z : _≡_ {A = ℕ} 0 1 = cc in omega arith)
 
 -- all eight found nothing
 pub record Clear (s : List ℕ) : Type 0 where

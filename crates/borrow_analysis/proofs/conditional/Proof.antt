@@ -1,20 +1,11 @@
 -- `borrow_analysis::conditional` meets its contract. Assumes nothing.
 use native.Mathlib.Omega.{arith}
 use mathlib.Core.Path.{sym, ap, _∙_}
-use mathlib.Core.Bool.{true, false}
-use Rattle.borrow_analysis.specs.Graph.{given, triplesOf}
-use Rattle.borrow_analysis.specs.Borrows.{upward}
 use Rattle.borrow_analysis.specs.Answers.{answerOf}
-use Rattle.borrow_analysis.specs.AcceptedLaws.{accepted-asked, inside-wider, in-use-refused, in-use-done, conditional-refused, conditional-done}
+use Rattle.borrow_analysis.specs.AcceptedLaws.{told-asked, inside-wider, conditional-refused, conditional-done}
 use borrow.Author.Needs.{needs}
 use Rattle.borrow_analysis.proofs.conditional.Statement.{statement}
 use Rattle.borrow_analysis.proofs.conditional.Tie as tie
-use Rattle.borrow_analysis.proofs.conditional.Reads as reads
-use Rattle.borrow_analysis.proofs.conditional.Lts as lts
-use Rattle.borrow_analysis.proofs.graph.check_asked.Reads as check-asked-reads
-use Rattle.borrow_analysis.proofs.upward.above.Reads as above-reads
-use Rattle.borrow_analysis.proofs.upward.many_in.Reads as many-in-reads
-use Rattle.dataflow_domains.proofs.LiveVarState.has.Reads as has-reads
 
 check-asked-requires : tie.Need-check-asked-requires
 check-asked-requires c κs = search needs
@@ -29,22 +20,22 @@ enum-told : tie.Need-enum-told
 enum-told c = search needs
 
 many-in-requires : tie.Need-many-in-requires
-many-in-requires c κs = let ok = accepted-asked (given (c .before .before .before .before .args .nodes) (c .before .before .before .before .args .live) (c .before .before .before .before .args .triples .now)) (c .before .before .before .before .args .node) (sym (c .before .before .check-asked .ensures) ∙ ap answerOf (c .enum-told .given .1)) in inside-wider _ (ok .0 .few) (ok .0 .inside)
+many-in-requires c κs = let ok = told-asked _ _ _ (c .before .before .check-asked .ensures) (c .enum-told .given .1) in inside-wider _ (ok .0 .few) (ok .0 .inside)
 
 above-requires : tie.Need-above-requires
-above-requires c κs = let ok = accepted-asked (given (c .before .before .before .before .before .args .nodes) (c .before .before .before .before .before .args .live) (c .before .before .before .before .before .args .triples .now)) (c .before .before .before .before .before .args .node) (sym (c .before .before .before .check-asked .ensures) ∙ ap answerOf (c .before .enum-told .given .1)) in inside-wider _ (ok .0 .few) (ok .0 .inside)
+above-requires c κs = let ok = told-asked _ _ _ (c .before .before .before .check-asked .ensures) (c .before .enum-told .given .1) in inside-wider _ (ok .0 .few) (ok .0 .inside)
 
 cast-has : tie.Need-cast-has
-cast-has c = let ok = accepted-asked (given (c .before .before .before .before .before .before .args .nodes) (c .before .before .before .before .before .before .args .live) (c .before .before .before .before .before .before .args .triples .now)) (c .before .before .before .before .before .before .args .node) (sym (c .before .before .before .before .check-asked .ensures) ∙ ap answerOf (c .before .before .enum-told .given .1)) in omega (arith, ok .0 .few, ok .1)
+cast-has c = let ok = told-asked _ _ _ (c .before .before .before .before .check-asked .ensures) (c .before .before .enum-told .given .1) in omega (arith, ok .0 .few, ok .1)
 
 has-requires : tie.Need-has-requires
-has-requires c κs = let ok = accepted-asked (given (c .before .before .before .before .before .before .args .nodes) (c .before .before .before .before .before .before .args .live) (c .before .before .before .before .before .before .args .triples .now)) (c .before .before .before .before .before .before .args .node) (sym (c .before .before .before .before .check-asked .ensures) ∙ ap answerOf (c .before .before .enum-told .given .1)) in omega (arith, ok .0 .few, ok .1)
+has-requires c κs = let ok = told-asked _ _ _ (c .before .before .before .before .check-asked .ensures) (c .before .before .enum-told .given .1) in omega (arith, ok .0 .few, ok .1)
+
+of-requires : tie.Need-of-requires
+of-requires c κs = search needs
 
 returns-2 : tie.Need-returns-2
-returns-2 c = conditional-done _ _ _ _ true (sym (ap answerOf (c .before .before .before .before .enum-told .given .1)) ∙ c .before .before .before .before .before .before .check-asked .ensures) (c .before .before .before .many-in .ensures) (c .before .before .above .ensures) (sym (c .before .has .ensures) ∙ c .if1 .taken)
-
-returns-3 : tie.Need-returns-3
-returns-3 c = conditional-done _ _ _ _ false (sym (ap answerOf (c .before .before .before .before .enum-told .given .1)) ∙ c .before .before .before .before .before .before .check-asked .ensures) (c .before .before .before .many-in .ensures) (c .before .before .above .ensures) (sym (c .before .has .ensures) ∙ c .if1 .left)
+returns-2 c = c .of .ensures ∙ conditional-done _ _ _ _ _ (sym (ap answerOf (c .before .before .before .before .enum-told .given .1)) ∙ c .before .before .before .before .before .before .check-asked .ensures) (c .before .before .before .many-in .ensures) (c .before .before .above .ensures) (sym (c .before .has .ensures))
 
 pub conditional-spec : {M : Type 1} → statement M
 conditional-spec =
@@ -58,5 +49,5 @@ conditional-spec =
     above-requires
     cast-has
     has-requires
-    returns-2
-    returns-3)
+    of-requires
+    returns-2)

@@ -1,20 +1,11 @@
 -- `borrow_analysis::dying` meets its contract. Assumes nothing.
-use native.Mathlib.Omega.{arith}
-use mathlib.Core.Path.{sym, ap, _∙_, subst}
-use Prim.Native.Nat.{ℕ, _^_, _<_}
-use Rattle.borrow_analysis.specs.Graph.{given, triplesOf}
-use Rattle.borrow_analysis.specs.Borrows.{upward}
+use mathlib.Core.Path.{sym, ap, _∙_}
+use Rattle.borrow_analysis.specs.Graph.{given}
 use Rattle.borrow_analysis.specs.Answers.{answerOf}
-use Rattle.borrow_analysis.specs.AcceptedLaws.{accepted-graphs, inside-wider, dying-refused, dying-short, dying-done}
+use Rattle.borrow_analysis.specs.AcceptedLaws.{told-graphs, inside-wider, dying-refused, dying-short, dying-done}
 use borrow.Author.Needs.{needs}
 use Rattle.borrow_analysis.proofs.dying.Statement.{statement}
 use Rattle.borrow_analysis.proofs.dying.Tie as tie
-use Rattle.borrow_analysis.proofs.dying.Reads as reads
-use Rattle.borrow_analysis.proofs.dying.Lts as lts
-use Rattle.borrow_analysis.proofs.ancestors.collect_from.Reads as collect-from-reads
-use Rattle.borrow_analysis.proofs.graph.check_graphs.Reads as check-graphs-reads
-use Rattle.borrow_analysis.proofs.graph.live_set.Reads as live-set-reads
-use Rattle.borrow_analysis.proofs.upward.above.Reads as above-reads
 
 check-graphs-requires : tie.Need-check-graphs-requires
 check-graphs-requires c κs = search needs
@@ -35,13 +26,15 @@ live-set-requires : tie.Need-live-set-requires
 live-set-requires c κs = search needs
 
 above-requires : tie.Need-above-requires
-above-requires c κs = let ok = accepted-graphs (given (c .before .before .before .before .before .before .before .before .args .nodes) (c .before .before .before .before .before .before .before .before .args .live) (c .before .before .before .before .before .before .before .before .args .triples .now)) (given (c .before .before .before .before .before .before .before .before .args .next-nodes) (c .before .before .before .before .before .before .before .before .args .next-live) (c .before .before .before .before .before .before .before .before .args .next-triples .now)) (sym (c .before .before .before .before .check-graphs .ensures) ∙ ap answerOf (c .before .before .enum-told .given .1)) in inside-wider _ (ok .1 .few) (ok .1 .inside)
+above-requires c κs = let ok = told-graphs _ _ _ (c .before .before .before .before .check-graphs .ensures) (c .before .before .enum-told .given .1) in inside-wider _ (ok .1 .few) (ok .1 .inside)
 
 live-set-requires-2 : tie.Need-live-set-requires-2
 live-set-requires-2 c κs = search needs
 
 collect-from-requires : tie.Need-collect-from-requires
-collect-from-requires c κs = let ok = accepted-graphs (given (c .before .before .before .before .before .before .before .before .before .before .before .args .nodes) (c .before .before .before .before .before .before .before .before .before .before .before .args .live) (c .before .before .before .before .before .before .before .before .before .before .before .args .triples .now)) (given (c .before .before .before .before .before .before .before .before .before .before .before .args .next-nodes) (c .before .before .before .before .before .before .before .before .before .before .before .args .next-live) (c .before .before .before .before .before .before .before .before .before .before .before .args .next-triples .now)) (sym (c .before .before .before .before .before .before .before .check-graphs .ensures) ∙ ap answerOf (c .before .before .before .before .before .enum-told .given .1)) in (ok .0 .inside, ok .0 .few, c .before .before .before .before .if1 .left, subst (λ (x : ℕ). x < 2 ^ (c .before .before .before .before .before .before .before .before .before .before .before .args .nodes)) (sym (c .before .live-set2 .ensures)) (ok .0 .small))
+collect-from-requires c κs =
+    let ok = told-graphs _ _ _ (c .before .before .before .before .before .before .before .check-graphs .ensures) (c .before .before .before .before .before .enum-told .given .1) in
+    (ok .0 .inside, ok .0 .few, c .before .before .before .before .if1 .left, rw (c .before .live-set2 .ensures) (ok .0 .small))
 
 cast-t19 : tie.Need-cast-t19
 cast-t19 c = search needs
@@ -50,7 +43,9 @@ same-length : tie.Need-same-length
 same-length c = search needs
 
 returns-3 : tie.Need-returns-3
-returns-3 c = dying-done _ _ _ (sym (ap answerOf (c .before .before .before .before .before .before .before .before .before .enum-told .given .1)) ∙ c .before .before .before .before .before .before .before .before .before .before .before .check-graphs .ensures) (c .before .before .before .before .before .before .before .before .if1 .left) (c .before .before .before .before .before .before .above .ensures ∙ ap (upward (c .before .before .before .before .before .before .before .before .before .before .before .before .before .before .before .args .next-nodes) (triplesOf (c .before .before .before .before .before .before .before .before .before .before .before .before .before .before .before .args .next-triples .now))) (c .before .before .before .before .before .before .before .live-set .ensures)) (c .before .before .before .before .before .live-set2 .ensures) (c .before .before .before .collect-from .ensures .0)
+returns-3 c =
+    dying-done _ _ _ (sym (ap answerOf (c .before .before .before .before .before .before .before .before .before .enum-told .given .1)) ∙ c .before .before .before .before .before .before .before .before .before .before .before .check-graphs .ensures) (c .before .before .before .before .before .before .before .before .if1 .left) (c .before .before .before .before .before .before .above .ensures) (c .before .before .before .before .before .before .before .live-set .ensures) (c .before .before .before .before .before .live-set2 .ensures)
+    (c .before .before .before .collect-from .ensures .0)
 
 pub dying-spec : {M : Type 1} → statement M
 dying-spec =

@@ -1,20 +1,11 @@
 -- `borrow_analysis::in_use` meets its contract. Assumes nothing.
 use native.Mathlib.Omega.{arith}
 use mathlib.Core.Path.{sym, ap, _∙_}
-use mathlib.Core.Bool.{true, false}
-use Rattle.borrow_analysis.specs.Graph.{given, triplesOf}
-use Rattle.borrow_analysis.specs.Borrows.{upward}
 use Rattle.borrow_analysis.specs.Answers.{answerOf}
-use Rattle.borrow_analysis.specs.AcceptedLaws.{accepted-asked, inside-wider, in-use-refused, in-use-done, conditional-refused, conditional-done}
+use Rattle.borrow_analysis.specs.AcceptedLaws.{told-asked, inside-wider, in-use-refused, in-use-done}
 use borrow.Author.Needs.{needs}
 use Rattle.borrow_analysis.proofs.in_use.Statement.{statement}
 use Rattle.borrow_analysis.proofs.in_use.Tie as tie
-use Rattle.borrow_analysis.proofs.in_use.Reads as reads
-use Rattle.borrow_analysis.proofs.in_use.Lts as lts
-use Rattle.borrow_analysis.proofs.graph.check_asked.Reads as check-asked-reads
-use Rattle.borrow_analysis.proofs.graph.live_set.Reads as live-set-reads
-use Rattle.borrow_analysis.proofs.upward.above.Reads as above-reads
-use Rattle.dataflow_domains.proofs.LiveVarState.has.Reads as has-reads
 
 check-asked-requires : tie.Need-check-asked-requires
 check-asked-requires c κs = search needs
@@ -32,19 +23,19 @@ live-set-requires : tie.Need-live-set-requires
 live-set-requires c κs = search needs
 
 above-requires : tie.Need-above-requires
-above-requires c κs = let ok = accepted-asked (given (c .before .before .before .before .before .args .nodes) (c .before .before .before .before .before .args .live) (c .before .before .before .before .before .args .triples .now)) (c .before .before .before .before .before .args .node) (sym (c .before .before .before .check-asked .ensures) ∙ ap answerOf (c .before .enum-told .given .1)) in inside-wider _ (ok .0 .few) (ok .0 .inside)
+above-requires c κs = let ok = told-asked _ _ _ (c .before .before .before .check-asked .ensures) (c .before .enum-told .given .1) in inside-wider _ (ok .0 .few) (ok .0 .inside)
 
 cast-has : tie.Need-cast-has
-cast-has c = let ok = accepted-asked (given (c .before .before .before .before .before .before .args .nodes) (c .before .before .before .before .before .before .args .live) (c .before .before .before .before .before .before .args .triples .now)) (c .before .before .before .before .before .before .args .node) (sym (c .before .before .before .before .check-asked .ensures) ∙ ap answerOf (c .before .before .enum-told .given .1)) in omega (arith, ok .0 .few, ok .1)
+cast-has c = let ok = told-asked _ _ _ (c .before .before .before .before .check-asked .ensures) (c .before .before .enum-told .given .1) in omega (arith, ok .0 .few, ok .1)
 
 has-requires : tie.Need-has-requires
-has-requires c κs = let ok = accepted-asked (given (c .before .before .before .before .before .before .args .nodes) (c .before .before .before .before .before .before .args .live) (c .before .before .before .before .before .before .args .triples .now)) (c .before .before .before .before .before .before .args .node) (sym (c .before .before .before .before .check-asked .ensures) ∙ ap answerOf (c .before .before .enum-told .given .1)) in omega (arith, ok .0 .few, ok .1)
+has-requires c κs = let ok = told-asked _ _ _ (c .before .before .before .before .check-asked .ensures) (c .before .before .enum-told .given .1) in omega (arith, ok .0 .few, ok .1)
+
+of-requires : tie.Need-of-requires
+of-requires c κs = search needs
 
 returns-2 : tie.Need-returns-2
-returns-2 c = in-use-done _ _ _ true (sym (ap answerOf (c .before .before .before .before .enum-told .given .1)) ∙ c .before .before .before .before .before .before .check-asked .ensures) (c .before .before .above .ensures ∙ ap (upward (c .before .before .before .before .before .before .before .before .args .nodes) (triplesOf (c .before .before .before .before .before .before .before .before .args .triples .now))) (c .before .before .before .live-set .ensures)) (sym (c .before .has .ensures) ∙ c .if1 .taken)
-
-returns-3 : tie.Need-returns-3
-returns-3 c = in-use-done _ _ _ false (sym (ap answerOf (c .before .before .before .before .enum-told .given .1)) ∙ c .before .before .before .before .before .before .check-asked .ensures) (c .before .before .above .ensures ∙ ap (upward (c .before .before .before .before .before .before .before .before .args .nodes) (triplesOf (c .before .before .before .before .before .before .before .before .args .triples .now))) (c .before .before .before .live-set .ensures)) (sym (c .before .has .ensures) ∙ c .if1 .left)
+returns-2 c = c .of .ensures ∙ in-use-done _ _ _ _ _ (sym (ap answerOf (c .before .before .before .before .enum-told .given .1)) ∙ c .before .before .before .before .before .before .check-asked .ensures) (c .before .before .above .ensures) (c .before .before .before .live-set .ensures) (sym (c .before .has .ensures))
 
 pub in-use-spec : {M : Type 1} → statement M
 in-use-spec =
@@ -58,5 +49,5 @@ in-use-spec =
     above-requires
     cast-has
     has-requires
-    returns-2
-    returns-3)
+    of-requires
+    returns-2)

@@ -11,12 +11,6 @@ use borrow.Author.Needs.{needs}
 use native.Mathlib.Omega.{arith}
 use Rattle.borrow_analysis.proofs.ancestors.collect_from.Statement.{statement}
 use Rattle.borrow_analysis.proofs.ancestors.collect_from.Tie as tie
-use Rattle.borrow_analysis.proofs.ancestors.collect_from.Reads as reads
-use Rattle.borrow_analysis.proofs.ancestors.collect_from.Lts as lts
-use Rattle.borrow_analysis.proofs.ancestors.collect_ancestors.Reads as collect-ancestors-reads
-use Rattle.dataflow_domains.proofs.LiveVarState.empty.Reads as empty-reads
-use Rattle.dataflow_domains.proofs.LiveVarState.is_empty.Reads as is-empty-reads
-use Rattle.dataflow_domains.proofs.LiveVarState.take_lowest.Reads as take-lowest-reads
 
 abbrev Inv-loop : tie.InvT-loop
 Inv-loop triples used depth out₀ seen₀ left₀ out seen left = Walk triples (mask used) depth (mask left₀) out₀ (mask left) (mask (seen .nodes)) (seen .count) out

@@ -1,11 +1,7 @@
 -- `borrow_analysis::ancestors::passed_over` meets its contract. Assumes nothing.
-use native.Mathlib.Omega.{arith}
 use borrow.Author.Needs.{needs}
 use Rattle.borrow_analysis.proofs.ancestors.passed_over.Statement.{statement}
 use Rattle.borrow_analysis.proofs.ancestors.passed_over.Tie as tie
-use Rattle.borrow_analysis.proofs.ancestors.passed_over.Reads as reads
-use Rattle.borrow_analysis.proofs.ancestors.passed_over.Lts as lts
-use Rattle.dataflow_domains.proofs.LiveVarState.has.Reads as has-reads
 
 has-requires : tie.Need-has-requires
 has-requires c κs = search needs

@@ -1,5 +1,4 @@
 -- `borrow_analysis::graph::check_asked` meets its contract. Assumes nothing.
-use native.Mathlib.Omega.{arith}
 use mathlib.Core.Path.{sym, ap, _∙_}
 use borrow.Author.Tests.{not-true, not-false}
 use Rattle.borrow_analysis.specs.Answers.{spotOf}
@@ -7,10 +6,6 @@ use Rattle.borrow_analysis.specs.GraphLaws.{asked-nodes, asked-triples, 
 use borrow.Author.Needs.{needs}
 use Rattle.borrow_analysis.proofs.graph.check_asked.Statement.{statement}
 use Rattle.borrow_analysis.proofs.graph.check_asked.Tie as tie
-use Rattle.borrow_analysis.proofs.graph.check_asked.Reads as reads
-use Rattle.borrow_analysis.proofs.graph.check_asked.Lts as lts
-use Rattle.borrow_analysis.proofs.graph.nodes_ok.Reads as nodes-ok-reads
-use Rattle.borrow_analysis.proofs.graph.triples_bad.Reads as triples-bad-reads
 
 nodes-ok-requires : tie.Need-nodes-ok-requires
 nodes-ok-requires c κs = search needs

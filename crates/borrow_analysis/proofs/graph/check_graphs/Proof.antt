@@ -7,10 +7,6 @@ use Rattle.borrow_analysis.specs.GraphLaws.{place-small, graphs-nodes, g
 use borrow.Author.Needs.{needs}
 use Rattle.borrow_analysis.proofs.graph.check_graphs.Statement.{statement}
 use Rattle.borrow_analysis.proofs.graph.check_graphs.Tie as tie
-use Rattle.borrow_analysis.proofs.graph.check_graphs.Reads as reads
-use Rattle.borrow_analysis.proofs.graph.check_graphs.Lts as lts
-use Rattle.borrow_analysis.proofs.graph.nodes_ok.Reads as nodes-ok-reads
-use Rattle.borrow_analysis.proofs.graph.triples_bad.Reads as triples-bad-reads
 
 nodes-ok-requires : tie.Need-nodes-ok-requires
 nodes-ok-requires c κs = search needs

@@ -13,9 +13,6 @@ use borrow.Author.Needs.{needs}
 use native.Mathlib.Omega.{arith}
 use Rattle.borrow_analysis.proofs.graph.first_bad.Statement.{statement}
 use Rattle.borrow_analysis.proofs.graph.first_bad.Tie as tie
-use Rattle.borrow_analysis.proofs.graph.first_bad.Reads as reads
-use Rattle.borrow_analysis.proofs.graph.first_bad.Lts as lts
-use Rattle.borrow_analysis.proofs.graph.triple_ok.Reads as triple-ok-reads
 
 abbrev Inv-loop : tie.InvT-loop
 Inv-loop nodes triples n i₀ i = (i ≤ length triples / 3) × (firstBad (length triples / 3) 0 (tripleOk (given nodes 0 triples)) ≡ firstBad (length triples / 3 - i) i (tripleOk (given nodes 0 triples)))

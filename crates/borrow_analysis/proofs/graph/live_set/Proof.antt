@@ -1,11 +1,10 @@
+-- `borrow_analysis::graph::live_set` meets its contract. Assumes nothing.
 use native.Mathlib.Omega.{arith}
 use Rattle.dataflow_domains.specs.Sets.{mask}
 use Rattle.dataflow_domains.specs.Words.{maskOf}
 use borrow.Author.Needs.{needs}
 use Rattle.borrow_analysis.proofs.graph.live_set.Statement.{statement}
 use Rattle.borrow_analysis.proofs.graph.live_set.Tie as tie
-use Rattle.borrow_analysis.proofs.graph.live_set.Reads as reads
-use Rattle.borrow_analysis.proofs.graph.live_set.Lts as lts
 
 array-write-a : tie.Need-array-write-a
 array-write-a c = search needs

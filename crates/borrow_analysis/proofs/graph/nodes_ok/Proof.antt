@@ -1,5 +1,4 @@
 -- `borrow_analysis::graph::nodes_ok` meets its contract. Assumes nothing.
-use native.Mathlib.Omega.{arith}
 use mathlib.Core.Path.{ap, _∙_}
 use Prim.Native.Nat.{ℕ, _^_}
 use lib.Dec.{ltb}
@@ -7,10 +6,6 @@ use Rattle.borrow_analysis.specs.GraphLaws.{nodes-many, nodes-few}
 use borrow.Author.Needs.{needs}
 use Rattle.borrow_analysis.proofs.graph.nodes_ok.Statement.{statement}
 use Rattle.borrow_analysis.proofs.graph.nodes_ok.Tie as tie
-use Rattle.borrow_analysis.proofs.graph.nodes_ok.Reads as reads
-use Rattle.borrow_analysis.proofs.graph.nodes_ok.Lts as lts
-use Rattle.borrow_analysis.proofs.graph.live_set.Reads as live-set-reads
-use Rattle.borrow_analysis.proofs.graph.none_from.Reads as none-from-reads
 
 returns : tie.Need-returns
 returns c = nodes-many _ _ (c .if1 .taken)

@@ -9,9 +9,6 @@ use borrow.Author.Needs.{needs}
 use native.Mathlib.Omega.{arith}
 use Rattle.borrow_analysis.proofs.graph.none_from.Statement.{statement}
 use Rattle.borrow_analysis.proofs.graph.none_from.Tie as tie
-use Rattle.borrow_analysis.proofs.graph.none_from.Reads as reads
-use Rattle.borrow_analysis.proofs.graph.none_from.Lts as lts
-use Rattle.dataflow_domains.proofs.LiveVarState.has.Reads as has-reads
 
 abbrev Inv-loop : tie.InvT-loop
 Inv-loop s from i₀ i = (from ≤ i) × None (mask s) from i

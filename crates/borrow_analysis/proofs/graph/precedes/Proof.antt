@@ -3,8 +3,6 @@ use borrow.Author.Needs.{needs}
 use Rattle.borrow_analysis.specs.GraphLaws.{rank-parent, rank-child, rank-edge}
 use Rattle.borrow_analysis.proofs.graph.precedes.Statement.{statement}
 use Rattle.borrow_analysis.proofs.graph.precedes.Tie as tie
-use Rattle.borrow_analysis.proofs.graph.precedes.Reads as reads
-use Rattle.borrow_analysis.proofs.graph.precedes.Lts as lts
 
 returns : tie.Need-returns
 returns c = rank-parent _ _ _ _ _ _ (search needs) (search needs) (search needs) (search needs) (c .if1 .taken)

@@ -1,12 +1,8 @@
 -- `borrow_analysis::graph::triple_ok` meets its contract. Assumes nothing.
-use native.Mathlib.Omega.{arith}
 use Rattle.borrow_analysis.specs.GraphLaws.{triple-parent, triple-child, triple-first, triple-order}
 use borrow.Author.Needs.{needs}
 use Rattle.borrow_analysis.proofs.graph.triple_ok.Statement.{statement}
 use Rattle.borrow_analysis.proofs.graph.triple_ok.Tie as tie
-use Rattle.borrow_analysis.proofs.graph.triple_ok.Reads as reads
-use Rattle.borrow_analysis.proofs.graph.triple_ok.Lts as lts
-use Rattle.borrow_analysis.proofs.graph.precedes.Reads as precedes-reads
 
 mul-at : tie.Need-mul-at
 mul-at c = search needs

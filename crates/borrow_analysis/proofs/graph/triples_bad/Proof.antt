@@ -1,13 +1,9 @@
 -- `borrow_analysis::graph::triples_bad` meets its contract. Assumes nothing.
-use native.Mathlib.Omega.{arith}
 use mathlib.Core.Path.{_∙_}
 use Rattle.borrow_analysis.specs.GraphLaws.{length-odd, length-over, length-fine}
 use borrow.Author.Needs.{needs}
 use Rattle.borrow_analysis.proofs.graph.triples_bad.Statement.{statement}
 use Rattle.borrow_analysis.proofs.graph.triples_bad.Tie as tie
-use Rattle.borrow_analysis.proofs.graph.triples_bad.Reads as reads
-use Rattle.borrow_analysis.proofs.graph.triples_bad.Lts as lts
-use Rattle.borrow_analysis.proofs.graph.first_bad.Reads as first-bad-reads
 
 returns : tie.Need-returns
 returns c = length-odd _ _ (c .if1 .taken)

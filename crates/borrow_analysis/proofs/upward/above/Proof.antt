@@ -11,10 +11,6 @@ use borrow.Author.Needs.{needs}
 use native.Mathlib.Omega.{arith}
 use Rattle.borrow_analysis.proofs.upward.above.Statement.{statement}
 use Rattle.borrow_analysis.proofs.upward.above.Tie as tie
-use Rattle.borrow_analysis.proofs.upward.above.Reads as reads
-use Rattle.borrow_analysis.proofs.upward.above.Lts as lts
-use Rattle.borrow_analysis.proofs.upward.parents_in.Reads as parents-in-reads
-use Rattle.dataflow_domains.proofs.LiveVarState.same.Reads as same-reads
 
 abbrev Inv-loop : tie.InvT-loop
 Inv-loop triples times reached₀ k₀ reached k = (k ≤ times) × (upward times (triplesOf triples) (mask reached₀) ≡ upward (times - k) (triplesOf triples) (mask reached))

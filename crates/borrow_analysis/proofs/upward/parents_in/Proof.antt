@@ -1,8 +1,7 @@
 -- `borrow_analysis::upward::parents_in` meets its contract. Assumes nothing.
 use mathlib.Core.Logic.{⊎-elim}
-use mathlib.Core.Path.{_≡_, refl, sym, ap, _∙_, subst}
-use Prim.Native.Nat.{ℕ, _-_, _/_, _≤_}
-use lib.ListN.{length}
+use mathlib.Core.Path.{ap, _∙_}
+use Prim.Native.Nat.{_-_, _≤_}
 use Rattle.dataflow_domains.specs.Sets.{mask}
 use Rattle.borrow_analysis.specs.Graph.{tripleAt}
 use Rattle.borrow_analysis.specs.UpwardLaws.{Growing, growing-none, growing-more, growing-same, growing-all}
@@ -10,12 +9,6 @@ use borrow.Author.Needs.{needs}
 use native.Mathlib.Omega.{arith}
 use Rattle.borrow_analysis.proofs.upward.parents_in.Statement.{statement}
 use Rattle.borrow_analysis.proofs.upward.parents_in.Tie as tie
-use Rattle.borrow_analysis.proofs.upward.parents_in.Reads as reads
-use Rattle.borrow_analysis.proofs.upward.parents_in.Lts as lts
-use Rattle.borrow_analysis.proofs.upward.child_at.Reads as child-at-reads
-use Rattle.borrow_analysis.proofs.upward.parent_at.Reads as parent-at-reads
-use Rattle.dataflow_domains.proofs.LiveVarState.has.Reads as has-reads
-use Rattle.dataflow_domains.proofs.LiveVarState.insert.Reads as insert-reads
 
 abbrev Inv-loop : tie.InvT-loop
 Inv-loop triples set n grown₀ i₀ grown i = (i ≤ n) × Growing (tripleAt triples) n (mask set) i (mask grown)
