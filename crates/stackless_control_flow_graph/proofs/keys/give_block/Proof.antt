@@ -43,13 +43,16 @@ returns : tie.Need-returns
 returns c = gives-none _ _ _ _ _ (c .before .before .before .before .before .before .before .before .before .before .wide .ensures) (c .before .before .before .before .before .before .before .before .wide2 .ensures) (c .before .before .before .before .before .before .before .if1 .taken) (c .before .before .before .before .give .ensures)
 
 give-requires-2 : tie.Need-give-requires-2
-give-requires-2 c κs = (c .before .before .before .before .before .before .before .before .before .before .before .pre .0, near-first _ _ _ _ _ _ (c .before .before .before .before .before .before .before .before .before .before .before .pre .1) (c .before .before .before .before .before .before .wide .ensures) (c .before .before .before .before .wide2 .ensures) (c .before .before .before .if1 .left), c .before .before .before .before .before .before .before .before .before .before .before .pre .3, c .before .before .before .before .before .before .before .before .before .before .before .pre .4)
+give-requires-2 c κs = 
+    let one = near-first _ _ _ _ _ _ (c .before .before .before .before .before .before .before .before .before .before .before .pre .1) (c .before .before .before .before .before .before .wide .ensures) (c .before .before .before .before .wide2 .ensures) (c .before .before .before .if1 .left) in
+    (c .before .before .before .before .before .before .before .before .before .before .before .pre .0, omega (arith, one, c .before .before .before .before .before .before .before .before .before .before .before .pre .1 .self), c .before .before .before .before .before .before .before .before .before .before .before .pre .3, c .before .before .before .before .before .before .before .before .before .before .before .pre .4)
 
 give-requires-3 : tie.Need-give-requires-3
-give-requires-3 c κs =
+give-requires-3 c κs = 
     let k = c .before .before .before .before .before .before .give2 .kept .1 .1 .0 in
     let b = c .before .before .before .before .before .before .give2 .kept .1 .1 .1 .0 in
-    (c .before .before .before .before .before .before .give2 .ensures .keys, omega (arith, k, c .before .before .before .before .before .before .before .before .before .before .before .before .before .before .before .before .before .before .pre .1 .self), omega (arith, k, b), omega (arith, k))
+    let one = near-first _ _ _ _ _ _ (c .before .before .before .before .before .before .before .before .before .before .before .before .before .before .before .before .before .before .pre .1) (c .before .before .before .before .before .before .before .before .before .before .before .before .before .wide .ensures) (c .before .before .before .before .before .before .before .before .before .before .before .wide2 .ensures) (c .before .before .before .before .before .before .before .before .before .before .if1 .left) in
+    (c .before .before .before .before .before .before .give2 .ensures .keys, omega (arith, k, one, c .before .before .before .before .before .before .before .before .before .before .before .before .before .before .before .before .before .before .pre .1 .self), omega (arith, k, b), omega (arith, k))
 
 same-length-3 : tie.Need-same-length-3
 same-length-3 c = search needs
