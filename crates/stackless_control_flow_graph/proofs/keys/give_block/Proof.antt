@@ -43,12 +43,12 @@ returns : tie.Need-returns
 returns c = gives-none _ _ _ _ _ (c .before .before .before .before .before .before .before .before .before .before .wide .ensures) (c .before .before .before .before .before .before .before .before .wide2 .ensures) (c .before .before .before .before .before .before .before .if1 .taken) (c .before .before .before .before .give .ensures)
 
 give-requires-2 : tie.Need-give-requires-2
-give-requires-2 c κs = 
+give-requires-2 c κs =
     let one = near-first _ _ _ _ _ _ (c .before .before .before .before .before .before .before .before .before .before .before .pre .1) (c .before .before .before .before .before .before .wide .ensures) (c .before .before .before .before .wide2 .ensures) (c .before .before .before .if1 .left) in
     (c .before .before .before .before .before .before .before .before .before .before .before .pre .0, omega (arith, one, c .before .before .before .before .before .before .before .before .before .before .before .pre .1 .self), c .before .before .before .before .before .before .before .before .before .before .before .pre .3, c .before .before .before .before .before .before .before .before .before .before .before .pre .4)
 
 give-requires-3 : tie.Need-give-requires-3
-give-requires-3 c κs = 
+give-requires-3 c κs =
     let k = c .before .before .before .before .before .before .give2 .kept .1 .1 .0 in
     let b = c .before .before .before .before .before .before .give2 .kept .1 .1 .1 .0 in
     let one = near-first _ _ _ _ _ _ (c .before .before .before .before .before .before .before .before .before .before .before .before .before .before .before .before .before .before .pre .1) (c .before .before .before .before .before .before .before .before .before .before .before .before .before .wide .ensures) (c .before .before .before .before .before .before .before .before .before .before .before .wide2 .ensures) (c .before .before .before .before .before .before .before .before .before .before .if1 .left) in
