@@ -71,6 +71,7 @@ fn main() {
         ("straight", straight(&mut rng)),
         ("300 Labels", random::sheet(&mut rng, random::Shape { n: 1024, locals: 64, labels: 300, flags: true })),
         ("looped", looped()),
+        ("1,024 Rets", Sheet { locals: 64, code: vec![Instruction::new(RET); 1024], ..Default::default() }),
     ];
     println!("{:<44} {:>9} {:>9} {:>7}", "up to 1,024 instructions, 70 blocks", "proved us", "plain us", "ratio");
     let mut table = vec![0u16; 6 * 1024];
