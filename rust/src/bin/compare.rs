@@ -7,14 +7,20 @@ fn difference(oracle: &mut Child, sheet: &Sheet) -> Option<String> {
     let s = sheet.bytes();
     let (status, theirs) = ask(oracle, FLOW, &s);
     let mut table = vec![0u16; 6 * 1024];
-    let blocks = flow(&s, &mut table).ok()? as usize;
+    let blocks = match flow(&s, &mut table) {
+        Ok(blocks) => blocks as usize,
+        Err(r) => return Some(format!("flow: {r}")),
+    };
     let ours: Vec<u8> = table[..6 * blocks].iter().flat_map(|x| x.to_le_bytes()).collect();
     if status != 0 || theirs != ours {
         return Some(format!("flow: status {status}, {theirs:?} for {ours:?}"));
     }
     let (status, theirs) = ask(oracle, LIVE, &s);
     let mut sets = vec![0u8; 16 * sheet.code.len()];
-    let taken = live(&s, &mut sets).ok()?;
+    let taken = match live(&s, &mut sets) {
+        Ok(taken) => taken,
+        Err(r) => return Some(format!("live: {r}")),
+    };
     sets.extend(taken.to_le_bytes());
     if status != 0 || theirs != sets {
         return Some(format!("live: status {status}, {theirs:?} for {sets:?}"));
