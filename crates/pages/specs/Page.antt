@@ -1,0 +1,69 @@
+-- The page of a sheet: its code, the blocks and where they lead, the live sets, and the rewritten code. Assumes nothing.
+use Prim.Native.Nat.{ℕ, _*_}
+use mathlib.Core.List.{List, [], _∷_, _++_}
+use lib.ListN.{getD, length}
+use Rattle.base.specs.Lists.{joins}
+use Rattle.base.specs.Bytes.{part}
+use Rattle.base.specs.Refusals.{Answer, Accepted, Refused}
+use Rattle.stackless_bytecode.specs.declared.Bytecode.{Bytecode}
+use Rattle.sheet.specs.Layout.{localsOf, codeOf}
+use Rattle.sheet.specs.Checks.{checkSheet}
+use Rattle.stackless_control_flow_graph.specs.Blocks.{blocksOf, flowTable}
+use Rattle.livevar_analysis.specs.Analysis.{LiveVarInfo, Analyzed, analyze}
+use Rattle.livevar_analysis.specs.Rewrite.{infoAt, Written, rewritten}
+use Rattle.listing.specs.Lines.{decimal, hex}
+use Rattle.listing.specs.Text.{refusedText}
+use Rattle.pages.specs.Words.{ascii, said, marked}
+use Rattle.pages.specs.Code.{localsIn, codeText}
+
+-- ---- blocks
+
+-- "0 to 3: key 4, leads to 2 3": the line of a block's six numbers; a 0 fills up
+unfoldable pub blockLine : List ℕ → List ℕ
+blockLine row =
+    decimal (getD row 0 0) ++ said (ascii " to ") (getD row 1 0) ++ said (ascii ": key ") (getD row 2 0) ++ ascii ", leads to"
+    ++ marked (ascii " ") (getD row 3 0) ++ marked (ascii " ") (getD row 4 0) ++ marked (ascii " ") (getD row 5 0) ++ ascii "\n"
+
+-- a line for each of m blocks of a flow table, and how many there are
+unfoldable pub flowText : ℕ → List ℕ → List ℕ
+flowText m table = joins m (λ i. blockLine (part table (6 * i) 6)) ++ said (ascii "blocks ") m ++ ascii "\n"
+
+-- ---- live sets
+
+-- a set in hex, and its locals
+unfoldable pub setText : ℕ → List ℕ
+setText m = (32 ∷ hex m) ++ localsIn m
+
+-- the line of the sets of the instruction at offset k
+unfoldable pub liveLine : ℕ → LiveVarInfo → List ℕ
+liveLine k i = decimal k ++ ascii ": before" ++ setText (i .before) ++ ascii ", after" ++ setText (i .after) ++ ascii "\n"
+
+-- a line for each instruction, and the count of blocks taken
+unfoldable pub liveText : List LiveVarInfo → ℕ → List ℕ
+liveText info taken = joins (length info) (λ k. liveLine k (infoAt info k)) ++ said (ascii "taken ") taken ++ ascii "\n"
+
+-- ---- the page
+
+-- the rewritten code, or refusal 10 or 11
+unfoldable pub rewrittenText : Written → List ℕ
+rewrittenText (Written.Sheet t) = codeText t
+rewrittenText Written.NoNumber = refusedText 10 0
+rewrittenText Written.TooLong = refusedText 11 0
+
+-- four sections with an empty line between them
+unfoldable pub sections : List ℕ → List ℕ
+sections s =
+    let code = codeOf s in
+    let live = analyze code (localsOf s) in
+    ascii "code\n" ++ codeText s
+    ++ ascii "\nflow\n" ++ flowText (blocksOf code) (flowTable code)
+    ++ ascii "\nlive\n" ++ liveText (live .info) (live .taken)
+    ++ ascii "\nrewritten\n" ++ rewrittenText (rewritten s)
+
+-- the sections of an accepted sheet; one line of a refused one
+unfoldable pub pageBy : Answer → List ℕ → List ℕ
+pageBy Accepted s = sections s
+pageBy (Refused num place) s = refusedText num place
+
+unfoldable pub page : List ℕ → List ℕ
+page s = pageBy (checkSheet s) s
