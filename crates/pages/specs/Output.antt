@@ -58,6 +58,10 @@ wrote-then {a} {b} {e} {old} {mid} {new} {s} {t} p q = record { is = write-appen
 pub wrote-as : {a e : ℕ} {old new s t : List ℕ} → s ≡ t → Wrote old a s new e → Wrote old a t new e
 wrote-as {a} {e} {old} {new} q p = subst (λ (x : List ℕ). Wrote old a x new e) q p
 
+-- a text that a number makes, by another name of the number
+pub wrote-by : (f : ℕ → List ℕ) {a e x y : ℕ} {old new : List ℕ} → x ≡ y → Wrote old a (f x) new e → Wrote old a (f y) new e
+wrote-by f q p = wrote-as (ap f q) p
+
 -- ---- the slice keeps its length
 
 store-length : (o : Output) (x : ℕ) → length (store o x .bytes) ≡ length (o .bytes)

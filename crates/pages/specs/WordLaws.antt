@@ -98,7 +98,7 @@ pub marked-some : (w : List ℕ) (x : ℕ) → x ≢ 0 → said w x ≡ marked w
 unfolding marked
 marked-some w x n = rw (ne-eqb x 0 n)
 
-listed-snoc : (a b xs : List ℕ) (x : ℕ) → listed a b (xs ++ (x ∷ [])) ≡ listed a b xs ++ (said a x ++ b)
+pub listed-snoc : (a b xs : List ℕ) (x : ℕ) → listed a b (xs ++ (x ∷ [])) ≡ listed a b xs ++ (said a x ++ b)
 unfolding listed gather
 listed-snoc a b [] x = append-nil (said a x ++ b)
 listed-snoc a b (y ∷ xs) x = ap (λ (l : List ℕ). (said a y ++ b) ++ l) (listed-snoc a b xs x) ∙ sym (append-assoc (said a y ++ b) (listed a b xs) (said a x ++ b))

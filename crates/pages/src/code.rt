@@ -28,7 +28,8 @@ use stackless_bytecode::Bytecode;
 const VERBS: [u8; 71] = *b"|call |ret|load |branch|jump|label|abort|nop|savemem|savespecvar|prop |";
 
 // The enum `Operation`.
-const OPERATIONS: [u8; 431] = *b"Function|OpaqueCallBegin|OpaqueCallEnd|Pack|Unpack|MoveTo|MoveFrom|Exists|BorrowLoc|BorrowField|BorrowGlobal|GetField|GetGlobal|Destroy|ReadRef|WriteRef|FreezeRef|Havoc|Stop|IsParent|WriteBack|UnpackRef|PackRef|UnpackRefDeep|PackRefDeep|CastU8|CastU64|CastU128|Not|Add|Sub|Mul|Div|Mod|BitOr|BitAnd|Xor|Shl|Shr|Lt|Gt|Le|Ge|Or|And|Eq|Neq|CastU256|TraceLocal|TraceReturn|TraceAbort|TraceExp|TraceGlobalMem|EmitEvent|EventStoreDiverge|";
+const OPERATIONS: [u8; 431] =
+    *b"Function|OpaqueCallBegin|OpaqueCallEnd|Pack|Unpack|MoveTo|MoveFrom|Exists|BorrowLoc|BorrowField|BorrowGlobal|GetField|GetGlobal|Destroy|ReadRef|WriteRef|FreezeRef|Havoc|Stop|IsParent|WriteBack|UnpackRef|PackRef|UnpackRefDeep|PackRefDeep|CastU8|CastU64|CastU128|Not|Add|Sub|Mul|Div|Mod|BitOr|BitAnd|Xor|Shl|Shr|Lt|Gt|Le|Ge|Or|And|Eq|Neq|CastU256|TraceLocal|TraceReturn|TraceAbort|TraceExp|TraceGlobalMem|EmitEvent|EventStoreDiverge|";
 
 // Where the reference mask ends in a sheet's heading.
 const REFS_END: usize = 16 + SET_BYTES;

@@ -17,7 +17,6 @@ same-length c = search needs
 returns : tie.Need-returns
 returns c = wrote-one _ _ _ (omega arith)
 
-
 returns-2 : tie.Need-returns-2
 returns-2 c = wrote-full _ _ _ (omega arith)
 

@@ -56,7 +56,7 @@ loop-again c =
     let s = c .before .before .before .before .before .before .before .before .before .before .before .before .args in (
       omega arith,
       goes-as (ap (λ (n : ℕ). word n (drop (l .k + 1) (s .text .now))) (sym (c .left-after .ensures)))
-      (goes-on (goes-as (word-goes (l .left) (s .text .now) (l .k) (omega arith) (sym (c .before .before .before .before .before .before .ends .ensures) ∙ c .before .before .before .before .before .if1 .left)) (l .inv .1)) (c .before .before .before .put-shown .ensures)),
+          (goes-on (goes-as (word-goes (l .left) (s .text .now) (l .k) (omega arith) (sym (c .before .before .before .before .before .before .ends .ensures) ∙ c .before .before .before .before .before .if1 .left)) (l .inv .1)) (c .before .before .before .put-shown .ensures)),
     )
 
 same-length-2 : tie.Need-same-length-2 Inv-loop μ-loop

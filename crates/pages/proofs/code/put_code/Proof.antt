@@ -1,0 +1,83 @@
+-- `pages::code::put_code` meets its contract. The first k lines are written. Assumes nothing.
+use borrow.Author.Needs.{needs}
+use native.Mathlib.Omega.{arith}
+use mathlib.Core.Path.{_≡_, sym, _∙_}
+use Prim.Native.Nat.{ℕ, _-_, _≤_}
+use lib.ListN.{length}
+use Rattle.sheet.specs.Layout.{codeOf}
+use Rattle.livevar_analysis.specs.LookupLaws.{count-of}
+use Rattle.stackless_control_flow_graph.specs.GivenLaws.{accepted-has}
+use Rattle.pages.specs.Output.{Wrote, wrote-as, wrote-none, wrote-then, wrote-length}
+use Rattle.pages.specs.CodeLaws.{codeLines, lines-none, lines-more, lines-all, heading-there}
+use Rattle.pages.proofs.code.put_code.Statement.{statement}
+use Rattle.pages.proofs.code.put_code.Tie as tie
+use Rattle.pages.proofs.code.put_code.Reads as reads
+use Rattle.pages.proofs.code.put_code.Lts as lts
+use Rattle.pages.proofs.code.put_code_line.Reads as put-code-line-reads
+use Rattle.pages.proofs.code.put_heading.Reads as put-heading-reads
+use Rattle.pages.proofs.code.wide16.Reads as wide16-reads
+use Rattle.sheet.proofs.reader.instruction_at.Reads as instruction-at-reads
+use Rattle.sheet.proofs.reader.u16_at.Reads as u16-at-reads
+
+abbrev Inv-loop : tie.InvT-loop
+Inv-loop s out₀ at n e₀ k₀ out e k = (k ≤ n) × (n ≡ length (codeOf s)) × Wrote out₀ e₀ (codeLines s k) out e
+
+abbrev μ-loop : tie.MeasureT-loop
+μ-loop s out₀ at n e₀ k₀ out e k = n - k
+
+u16-at-requires : tie.Need-u16-at-requires Inv-loop μ-loop
+u16-at-requires c κs = omega (arith, heading-there (c .before .before .args .s .now) (c .before .before .pre))
+
+wide16-requires : tie.Need-wide16-requires Inv-loop μ-loop
+wide16-requires c κs = search needs
+
+put-heading-requires : tie.Need-put-heading-requires Inv-loop μ-loop
+put-heading-requires c κs = heading-there _ (c .before .before .before .before .before .pre)
+
+loop-holds : tie.Need-loop-holds Inv-loop μ-loop
+loop-holds c = (omega arith, count-of (c .before .before .before .before .before .before .before .before .args .s .now) _ (c .before .before .before .before .wide16 .ensures ∙ c .before .before .before .before .before .u16-at .ensures), wrote-as (lines-none _) (wrote-none _ _))
+
+cast-instruction-at : tie.Need-cast-instruction-at Inv-loop μ-loop
+cast-instruction-at c = search needs
+
+instruction-at-requires : tie.Need-instruction-at-requires Inv-loop μ-loop
+instruction-at-requires c κs = let h = accepted-has (c .before .before .before .before .before .before .before .before .before .before .args .s .now) (c .before .before .before .before .before .before .before .before .before .before .pre) (c .before .loop .k) (omega arith) in (h .ends, h .few)
+
+put-code-line-requires : tie.Need-put-code-line-requires Inv-loop μ-loop
+put-code-line-requires c κs = search needs
+
+add-k : tie.Need-add-k Inv-loop μ-loop
+add-k c = search needs
+
+loop-less : tie.Need-loop-less Inv-loop μ-loop
+loop-less c = search needs
+
+loop-again : tie.Need-loop-again Inv-loop μ-loop
+loop-again c =
+    let l = c .before .before .before .before .before .before .loop in
+    (omega arith, l .inv .1, wrote-as (lines-more (c .before .before .before .before .before .before .before .before .before .before .before .before .before .before .before .args .s .now) (l .k) _ (c .before .before .before .before .before .before .before .before .before .before .before .before .before .before .before .pre) (omega arith) (c .before .before .before .before .instruction-at .ensures)) (wrote-then (l .inv .2) (c .before .before .put-code-line .ensures)))
+
+same-length : tie.Need-same-length Inv-loop μ-loop
+same-length c = wrote-length (wrote-then (c .before .before .before .before .put-heading .ensures) (c .before .loop .inv .2))
+
+returns : tie.Need-returns Inv-loop μ-loop
+returns c = let l = c .before .loop in wrote-as (lines-all (c .before .before .before .before .before .before .before .before .before .before .args .s .now) (l .k) (omega arith)) (wrote-then (c .before .before .before .before .put-heading .ensures) (l .inv .2))
+
+pub put-code-spec : {M : Type 1} → statement M
+put-code-spec =
+    tie.close
+    (tie.spec
+    Inv-loop
+    μ-loop
+    u16-at-requires
+    wide16-requires
+    put-heading-requires
+    loop-holds
+    cast-instruction-at
+    instruction-at-requires
+    put-code-line-requires
+    add-k
+    loop-less
+    loop-again
+    same-length
+    returns)

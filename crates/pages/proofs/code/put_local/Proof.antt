@@ -1,0 +1,42 @@
+-- `pages::code::put_local` meets its contract. Assumes nothing.
+use borrow.Author.Needs.{needs}
+use native.Mathlib.Omega.{arith}
+use Prim.Native.Nat.{ℕ}
+use Rattle.pages.specs.Output.{wrote-as, wrote-by, wrote-none}
+use Rattle.pages.specs.Words.{ascii, said}
+use Rattle.pages.specs.CodeLaws.{local-in, local-out}
+use Rattle.pages.proofs.code.put_local.Statement.{statement}
+use Rattle.pages.proofs.code.put_local.Tie as tie
+use Rattle.pages.proofs.code.put_local.Reads as reads
+use Rattle.pages.proofs.code.put_local.Lts as lts
+use Rattle.pages.proofs.code.wide32.Reads as wide32-reads
+use Rattle.pages.proofs.output.put_number.Reads as put-number-reads
+
+slice-aggregate-put-number : tie.Need-slice-aggregate-put-number
+slice-aggregate-put-number c = search needs
+
+wide32-requires : tie.Need-wide32-requires
+wide32-requires c κs = search needs
+
+put-number-requires : tie.Need-put-number-requires
+put-number-requires c κs = search needs
+
+same-length : tie.Need-same-length
+same-length c = search needs
+
+returns : tie.Need-returns
+returns c = wrote-as (local-in _ _ (c .before .before .before .before .before .before .if1 .taken)) (wrote-by (λ (x : ℕ). said (ascii " t") x) (c .before .before .before .before .wide32 .ensures) (c .before .before .put-number .ensures))
+
+returns-2 : tie.Need-returns-2
+returns-2 c = wrote-as (local-out _ _ (c .if1 .left)) (wrote-none _ _)
+
+pub put-local-spec : {M : Type 1} → statement M
+put-local-spec =
+    tie.close
+    (tie.spec
+    slice-aggregate-put-number
+    wide32-requires
+    put-number-requires
+    same-length
+    returns
+    returns-2)

@@ -1,0 +1,74 @@
+-- `pages::code::put_locals` meets its contract. The locals below i are written. Assumes nothing.
+use borrow.Author.Needs.{needs}
+use native.Mathlib.Omega.{arith}
+use mathlib.Core.Path.{_≡_, sym, ap, _∙_}
+use Prim.Native.Nat.{ℕ, _-_, _≤_}
+use lib.ListN.{length}
+use Rattle.base.specs.Sizes.{maxLocals}
+use Rattle.base.specs.Bytes.{number}
+use Rattle.dataflow_domains.specs.Sets.{mask}
+use Rattle.pages.specs.Output.{Wrote, wrote-as, wrote-by, wrote-none, wrote-then, wrote-length}
+use Rattle.pages.specs.CodeLaws.{localsBelow, below-none, below-more, below-all}
+use Rattle.pages.proofs.code.put_locals.Statement.{statement}
+use Rattle.pages.proofs.code.put_locals.Tie as tie
+use Rattle.pages.proofs.code.put_locals.Reads as reads
+use Rattle.pages.proofs.code.put_locals.Lts as lts
+use Rattle.dataflow_domains.proofs.LiveVarState.has.Reads as has-reads
+use Rattle.dataflow_domains.proofs.LiveVarState.load_bytes.Reads as load-bytes-reads
+use Rattle.pages.proofs.code.put_local.Reads as put-local-reads
+use Rattle.pages.proofs.code.wide8.Reads as wide8-reads
+
+abbrev Inv-loop : tie.InvT-loop
+Inv-loop p out₀ at set i₀ e₀ out i e = (i ≤ maxLocals) × Wrote out₀ at (localsBelow i (number p)) out e
+
+abbrev μ-loop : tie.MeasureT-loop
+μ-loop p out₀ at set i₀ e₀ out i e = maxLocals - i
+
+load-bytes-requires : tie.Need-load-bytes-requires Inv-loop μ-loop
+load-bytes-requires c κs = search needs
+
+loop-holds : tie.Need-loop-holds Inv-loop μ-loop
+loop-holds c = (omega arith, wrote-as (sym (below-none _)) (wrote-none _ _))
+
+wide8-requires : tie.Need-wide8-requires Inv-loop μ-loop
+wide8-requires c κs = search needs
+
+has-requires : tie.Need-has-requires Inv-loop μ-loop
+has-requires c κs = omega (arith, c .before .wide8 .ensures)
+
+put-local-requires : tie.Need-put-local-requires Inv-loop μ-loop
+put-local-requires c κs = search needs
+
+add-i : tie.Need-add-i Inv-loop μ-loop
+add-i c = omega (arith, c .before .before .before .before .before .before .wide8 .ensures)
+
+loop-less : tie.Need-loop-less Inv-loop μ-loop
+loop-less c = omega (arith, c .before .before .before .before .before .before .wide8 .ensures)
+
+loop-again : tie.Need-loop-again Inv-loop μ-loop
+loop-again c =
+    let l = c .before .before .before .before .before .before .before .loop in
+    (omega (arith, c .before .before .before .before .before .before .wide8 .ensures), wrote-as (sym (below-more (c .before .before .before .before .before .before .before .before .before .before .before .args .p .now) (l .i) _ _ (c .before .before .before .before .before .before .before .before .load-bytes .ensures) (c .before .before .before .before .has .ensures))) (wrote-then (l .inv .1) (c .before .before .put-local .ensures)))
+
+same-length : tie.Need-same-length Inv-loop μ-loop
+same-length c = wrote-length (c .before .before .loop .inv .1)
+
+returns : tie.Need-returns Inv-loop μ-loop
+returns c = let l = c .before .before .loop in let all : l .i ≡ maxLocals = omega (arith, c .before .wide8 .ensures) in wrote-as (below-all (number (c .before .before .before .before .before .before .args .p .now)) (l .i) all) (l .inv .1)
+
+pub put-locals-spec : {M : Type 1} → statement M
+put-locals-spec =
+    tie.close
+    (tie.spec
+    Inv-loop
+    μ-loop
+    load-bytes-requires
+    loop-holds
+    wide8-requires
+    has-requires
+    put-local-requires
+    add-i
+    loop-less
+    loop-again
+    same-length
+    returns)

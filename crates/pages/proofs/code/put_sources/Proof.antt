@@ -1,0 +1,48 @@
+-- `pages::code::put_sources` meets its contract. Assumes nothing.
+use borrow.Author.Needs.{needs}
+use native.Mathlib.Omega.{arith}
+use Prim.Native.Nat.{ℕ}
+use lib.ListN.{take}
+use mathlib.Core.List.{[]}
+use Rattle.pages.specs.Output.{wrote-as, wrote-by}
+use Rattle.pages.specs.Words.{ascii, listed}
+use Rattle.pages.specs.CodeLaws.{sources-is}
+use Rattle.pages.proofs.code.put_sources.Statement.{statement}
+use Rattle.pages.proofs.code.put_sources.Tie as tie
+use Rattle.pages.proofs.code.put_sources.Reads as reads
+use Rattle.pages.proofs.code.put_sources.Lts as lts
+use Rattle.pages.proofs.code.wide8.Reads as wide8-reads
+use Rattle.pages.proofs.output.put_listed.Reads as put-listed-reads
+
+slice-aggregate-put-listed : tie.Need-slice-aggregate-put-listed
+slice-aggregate-put-listed c = search needs
+
+slice-aggregate-put-listed-2 : tie.Need-slice-aggregate-put-listed-2
+slice-aggregate-put-listed-2 c = search needs
+
+slice-aggregate-put-listed-3 : tie.Need-slice-aggregate-put-listed-3
+slice-aggregate-put-listed-3 c = search needs
+
+wide8-requires : tie.Need-wide8-requires
+wide8-requires c κs = search needs
+
+put-listed-requires : tie.Need-put-listed-requires
+put-listed-requires c κs = search needs
+
+same-length : tie.Need-same-length
+same-length c = search needs
+
+returns : tie.Need-returns
+returns c = wrote-as (sources-is _) (wrote-by (λ (x : ℕ). listed (ascii " t") [] (take x (c .before .before .before .before .before .before .before .before .before .before .args .r .srcs))) (c .before .before .before .before .wide8 .ensures) (c .before .before .put-listed .ensures))
+
+pub put-sources-spec : {M : Type 1} → statement M
+put-sources-spec =
+    tie.close
+    (tie.spec
+    slice-aggregate-put-listed
+    slice-aggregate-put-listed-2
+    slice-aggregate-put-listed-3
+    wide8-requires
+    put-listed-requires
+    same-length
+    returns)

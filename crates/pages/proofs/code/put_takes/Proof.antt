@@ -1,0 +1,56 @@
+-- `pages::code::put_takes` meets its contract. Assumes nothing.
+use borrow.Author.Needs.{needs}
+use native.Mathlib.Omega.{arith}
+use Prim.Native.Nat.{ℕ}
+use Rattle.pages.specs.Output.{wrote-as, wrote-by, wrote-then}
+use Rattle.pages.specs.Words.{ascii, marked}
+use Rattle.pages.specs.CodeLaws.{takes-is}
+use Rattle.pages.proofs.code.put_takes.Statement.{statement}
+use Rattle.pages.proofs.code.put_takes.Tie as tie
+use Rattle.pages.proofs.code.put_takes.Reads as reads
+use Rattle.pages.proofs.code.put_takes.Lts as lts
+use Rattle.pages.proofs.code.put_aborting.Reads as put-aborting-reads
+use Rattle.pages.proofs.code.put_sources.Reads as put-sources-reads
+use Rattle.pages.proofs.code.wide16.Reads as wide16-reads
+use Rattle.pages.proofs.output.put_mark.Reads as put-mark-reads
+
+put-sources-requires : tie.Need-put-sources-requires
+put-sources-requires c κs = search needs
+
+put-aborting-requires : tie.Need-put-aborting-requires
+put-aborting-requires c κs = search needs
+
+slice-aggregate-put-mark : tie.Need-slice-aggregate-put-mark
+slice-aggregate-put-mark c = search needs
+
+put-mark-requires : tie.Need-put-mark-requires
+put-mark-requires c κs = search needs
+
+slice-aggregate-put-mark-2 : tie.Need-slice-aggregate-put-mark-2
+slice-aggregate-put-mark-2 c = search needs
+
+wide16-requires : tie.Need-wide16-requires
+wide16-requires c κs = search needs
+
+put-mark-requires-2 : tie.Need-put-mark-requires-2
+put-mark-requires-2 c κs = search needs
+
+same-length : tie.Need-same-length
+same-length c = search needs
+
+returns : tie.Need-returns
+returns c = wrote-as (takes-is _) (wrote-then (wrote-then (wrote-then (c .before .before .before .before .before .before .before .before .before .before .before .before .before .before .before .before .before .put-sources .ensures) (c .before .before .before .before .before .before .before .before .before .before .before .before .before .put-aborting .ensures)) (c .before .before .before .before .before .before .before .before .put-mark .ensures)) (wrote-by (λ (x : ℕ). marked (ascii " @") x) (c .before .before .before .before .wide16 .ensures) (c .before .before .put-mark2 .ensures)))
+
+pub put-takes-spec : {M : Type 1} → statement M
+put-takes-spec =
+    tie.close
+    (tie.spec
+    put-sources-requires
+    put-aborting-requires
+    slice-aggregate-put-mark
+    put-mark-requires
+    slice-aggregate-put-mark-2
+    wide16-requires
+    put-mark-requires-2
+    same-length
+    returns)
