@@ -10,7 +10,7 @@ use Rattle.sheet.specs.Layout.{localsOf, codeOf}
 use Rattle.sheet.specs.Checks.{checkSheet}
 use Rattle.stackless_control_flow_graph.specs.Blocks.{blocksOf, flowTable}
 use Rattle.livevar_analysis.specs.Analysis.{LiveVarInfo, Analyzed, analyze}
-use Rattle.livevar_analysis.specs.Rewrite.{infoAt, Written, rewritten}
+use Rattle.livevar_transform.specs.Rewrite.{infoAt, Written, rewritten}
 use Rattle.listing.specs.Lines.{decimal, hex}
 use Rattle.listing.specs.Text.{refusedText}
 use Rattle.pages.specs.Words.{ascii, said, marked}
