@@ -1,20 +1,19 @@
 -- The new code, record behind record: what is written so far, the block of an edge, the kept instructions and all blocks. Assumes nothing.
 use mathlib.Core.Path.{_≡_, refl, sym, ap, ap₂, _∙_, subst}
-use mathlib.Core.Bool.{Bool, true, false, cond, not, _||_, _&&_, true≢false}
+use mathlib.Core.Bool.{Bool, true, false, cond, not, true≢false}
 use mathlib.Core.List.{List, [], _∷_, _++_, append-assoc, append-nil}
-use Prim.Native.Nat.{ℕ, zero, suc, _+_, _-_, _*_, _/_, _%_, _^_, _≤_, _<_}
-use native.Mathlib.Nat.{zero-add, add-zero}
+use Prim.Native.Nat.{ℕ, suc, _+_, _-_, _*_, _/_, _%_, _^_, _≤_, _<_}
 use native.Mathlib.Numerals.{add-one}
 use native.Mathlib.Omega.{arith}
-use borrow.Author.Tests.{eq-eqb, ne-eqb, eqb-true, eqb-false, lt-ltb, le-ltb, ltb-true, ltb-false}
+use borrow.Author.Tests.{eq-eqb, ne-eqb, lt-ltb}
 use lib.Count.{ones}
 use lib.Dec.{eqb, ltb}
 use lib.ListN.{getD, length, take, drop, length-append, length-drop, drop-of-length-le}
 use lib.Seq.{take-suc, take-all, length-take-le}
 use Rattle.base.specs.Sizes.{maxLocals, maxNumber, maxInstructions, recordBytes}
-use Rattle.base.specs.Lists.{count, total, joins, gather}
-use Rattle.base.specs.ListLaws.{by-test, by-eq}
-use Rattle.base.specs.JoinLaws.{joins-length, total-same, total-le, count-lt}
+use Rattle.base.specs.Lists.{total, joins, gather}
+use Rattle.base.specs.ListLaws.{by-eq}
+use Rattle.base.specs.JoinLaws.{joins-length, total-same, total-le}
 use Rattle.base.specs.PartLaws.{gather-length}
 use Rattle.base.specs.WriteLaws.{part-more, drop-front, length-kept}
 use Rattle.dataflow_domains.specs.Mask.{minus}
@@ -22,7 +21,7 @@ use Rattle.dataflow_domains.specs.MaskLaws.{minus-lt}
 use Rattle.dataflow_domains.specs.Members.{members, Lowest}
 use Rattle.dataflow_domains.specs.MemberLaws.{walk-more, walk-end, members-length}
 use Rattle.stackless_bytecode.specs.declared.Bytecode.{Bytecode}
-use Rattle.stackless_bytecode.specs.Kinds.{Call, Label, Jump, Branch, Destroy, at, nop}
+use Rattle.stackless_bytecode.specs.Kinds.{Call, Label, Jump, Destroy, at, nop}
 use Rattle.sheet.specs.Layout.{countOf, codeOf, instructionAt, encode}
 use Rattle.sheet.specs.EncodeLaws.{record-size}
 use Rattle.sheet.specs.Checks.{checkSheet}

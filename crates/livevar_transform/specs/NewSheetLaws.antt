@@ -1,25 +1,20 @@
 -- The new sheet out of the records of the new code: its blocks, its heading, and the whole; and when refusals 10 and 11 are given. Assumes nothing.
-use mathlib.Core.Path.{_≡_, refl, sym, ap, ap₂, _∙_, subst}
-use mathlib.Core.Bool.{Bool, true, false, cond, not, _||_, _&&_, true≢false}
+use mathlib.Core.Path.{_≡_, refl, sym, ap, ap₂, _∙_}
 use mathlib.Core.List.{List, [], _∷_, _++_, append-assoc, append-nil}
-use Prim.Native.Nat.{ℕ, zero, suc, _+_, _-_, _*_, _/_, _%_, _≤_, _<_}
-use native.Mathlib.Nat.{zero-add, add-zero, suc-add, add-suc, mul-suc}
+use Prim.Native.Nat.{ℕ, zero, suc, _+_, _-_, _*_, _%_, _≤_, _<_}
+use native.Mathlib.Nat.{zero-add, add-zero, suc-add, add-suc}
 use native.Mathlib.Numerals.{add-one}
 use native.Mathlib.Omega.{arith}
-use borrow.Author.Tests.{lt-ltb, le-ltb, ltb-true, ltb-false}
-use lib.Dec.{ltb}
 use lib.ListN.{getD, length, take, drop, set, replicate, length-append, length-take, length-drop, length-replicate, List·getD-append, drop-of-length-le, take-append-drop}
-use lib.Seq.{take-at, drop-at, take-all, drop-drop, take-take, getD-take, getD-drop, ext-getD, take-append-add, length-take-le, drop-append-add}
-use Rattle.base.specs.Sizes.{blockBytes, recordsFrom, blockRecords, recordBytes, maxNumber, maxInstructions, maxBlocks, maxBytes}
-use Rattle.base.specs.Lists.{tab, sum, gather, joins, count, total}
+use lib.Seq.{take-at, drop-at, take-all, drop-drop, getD-take, getD-drop, ext-getD, take-append-add, length-take-le}
+use Rattle.base.specs.Sizes.{blockBytes, recordsFrom, blockRecords, recordBytes, maxInstructions, maxBlocks}
+use Rattle.base.specs.Lists.{tab, sum, gather, joins}
 use Rattle.base.specs.Bytes.{bytesOf, part}
-use Rattle.base.specs.ListLaws.{by-test, copies-at, length-tab, and-true, or-true}
-use Rattle.base.specs.JoinLaws.{by-lt, getD-behind, count-lt, total-le}
-use Rattle.base.specs.PartLaws.{gather-length}
+use Rattle.base.specs.ListLaws.{copies-at}
+use Rattle.base.specs.JoinLaws.{by-lt, getD-behind}
 use Rattle.base.specs.WriteLaws.{part-more, length-kept, wrote, wrote-more, wrote-all}
 use Rattle.stackless_bytecode.specs.declared.Bytecode.{Bytecode}
-use Rattle.stackless_bytecode.specs.Kinds.{nop}
-use Rattle.sheet.specs.Layout.{encode, recordBlocks, blockOf, bodyOf, sheetOf}
+use Rattle.sheet.specs.Layout.{headingRest, encode, recordBlocks, blockOf, bodyOf, sheetOf}
 use Rattle.sheet.specs.EncodeLaws.{sheet-length}
 use Rattle.livevar_transform.specs.NewCodeLaws.{placed, records-length, placed-length, gather-append, tail-is}
 
@@ -146,7 +141,7 @@ heading-parts d rest n size long =
     ∙ drop-at (take 4 (take 6 d ++ rest)) (n ++ drop 2 (drop 4 (take 6 d ++ rest))) 4 four
     ∙ ap (λ (x : List ℕ). n ++ x) (drop-drop 2 4 (take 6 d ++ rest) ∙ drop-at (take 6 d) rest 6 six)
 
-pub heading-rest : (s rest : List ℕ) → blockBytes ≤ length s → rest ≡ part s 6 (blockBytes - 6) → length rest ≡ blockBytes - 6
+pub heading-rest : (s rest : List ℕ) → blockBytes ≤ length s → rest ≡ headingRest s → length rest ≡ blockBytes - 6
 heading-rest s rest h e = ap length e ∙ length-take (blockBytes - 6) (drop 6 s) ∙ (omega (arith, length-drop 6 s))
 
 -- a later block: the zeros, then the records

@@ -12,8 +12,7 @@ use Rattle.stackless_bytecode.specs.declared.Bytecode.{Bytecode}
 use Rattle.base.specs.Sizes.{maxLocals}
 use Rattle.base.specs.Refusals.{Accepted}
 use Rattle.base.specs.Lists.{all, zeros}
-use Rattle.base.specs.Bytes.{part}
-use Rattle.sheet.specs.Layout.{userLocalsOf, parametersOf, localsOf, refsOf, codeOf, padded, sheetOf}
+use Rattle.sheet.specs.Layout.{headingRest, userLocalsOf, parametersOf, localsOf, refsOf, codeOf, padded, sheetOf}
 use Rattle.stackless_bytecode.specs.Kinds.{dstsOf, srcsOf, nop, at, isFlagged}
 use Rattle.livevar_analysis.specs.Analysis.{LiveVarInfo, analyze}
 use Rattle.sheet.specs.declared.Shape.{Shape}
@@ -231,7 +230,7 @@ sheetNew s = transformCode (codeOf s) (sheetInfo s) (refsOf s)
 -- where rewriting is not refused: there is room, and it gives the new code under the old heading
 pub record Given (s t : List ℕ) : Type 0 where
   pub room : Room (codeOf s) (sheetInfo s) (refsOf s)
-  pub is : t ≡ sheetOf (part s 6 506) (sheetNew s)
+  pub is : t ≡ sheetOf (headingRest s) (sheetNew s)
 
 by-cond : {A : Type 0} (P : Type 0) (b : Bool) (x y z : A) → cond b x y ≡ z → (b ≡ true → x ≡ z → P) → (b ≡ false → y ≡ z → P) → P
 by-cond P true x y z e t f = t refl e
@@ -280,9 +279,9 @@ pub rewritten-accepted : (s t : List ℕ) → Bytes s → checkSheet s ≡ Accep
 rewritten-accepted s t bytes e r =
     let g = given s t r in
     let b = new-body (localsOf s) (refsOf s) (codeOf s) (sheetInfo s) (accepted-body s bytes e) (heading s bytes e .refs) (heading s bytes e .locals) (g .room) in
-    let again : checkSheet (sheetOf (part s 6 506) (sheetNew s)) ≡ Accepted = accepted-again s e (sheetNew s) b in
+    let again : checkSheet (sheetOf (headingRest s) (sheetNew s)) ≡ Accepted = accepted-again s e (sheetNew s) b in
     subst (Again s) (sym (g .is)) (record {
-      bytes = by-small _ (sheet-small (part s 6 506) (sheetNew s) (small-take 506 (drop 6 s) (small-drop 6 s (small-by s (λ i h. bytes .each i)))) (λ r i. let p = in-getD (sheetNew s) r nop i in subst Encodes (p .2) (b .encodes (p .0) (p .1))));
+      bytes = by-small _ (sheet-small (headingRest s) (sheetNew s) (small-take 506 (drop 6 s) (small-drop 6 s (small-by s (λ i h. bytes .each i)))) (λ r i. let p = in-getD (sheetNew s) r nop i in subst Encodes (p .2) (b .encodes (p .0) (p .1))));
       accepted = again;
       code = same-code s e (sheetNew s) b;
       some = omega (arith, accepted-valid _ again .count, accepted-valid _ again .some);

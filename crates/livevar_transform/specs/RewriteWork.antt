@@ -1,28 +1,26 @@
 -- What the rewriting worker is asked and answers, and when it gives refusals 10 and 11. Assumes nothing.
-use mathlib.Core.Path.{_≡_, refl, sym, ap, ap₂, _∙_, subst}
-use mathlib.Core.Logic.{⊎-elim}
-use mathlib.Core.Bool.{Bool, true, false, cond, _||_, _&&_, true≢false}
+use mathlib.Core.Path.{_≡_, refl, sym, ap, ap₂, _∙_}
+use mathlib.Core.Bool.{Bool, true, false, cond, _||_, _&&_}
 use mathlib.Core.List.{List, _++_}
 use Prim.Native.Nat.{ℕ, suc, _+_, _-_, _*_, _≤_, _<_}
 use native.Mathlib.Omega.{arith}
-use borrow.Author.Tests.{lt-ltb, le-ltb, ltb-true, ltb-false}
+use borrow.Author.Tests.{lt-ltb, le-ltb, ltb-false}
 use lib.Dec.{ltb}
 use lib.ListN.{length, drop, replicate, length-replicate}
 use Rattle.base.specs.Sizes.{maxNumber, maxInstructions, maxBlocks}
-use Rattle.base.specs.Lists.{count, total, joins}
-use Rattle.base.specs.Bytes.{part}
+use Rattle.base.specs.Lists.{joins}
 use Rattle.base.specs.Refusals.{Result, refusedResult, resultOf, left}
 use Rattle.base.specs.declared.Refusal.the-variants.{NumberTooHigh, CodeTooLong}
-use Rattle.base.specs.ListLaws.{by-test, or-false}
+use Rattle.base.specs.ListLaws.{or-false}
 use Rattle.base.specs.JoinLaws.{by-lt, count-lt, total-le}
 use Rattle.stackless_bytecode.specs.declared.Bytecode.{Bytecode}
-use Rattle.sheet.specs.Layout.{localsOf, refsOf, codeOf, recordBlocks, sheetOf}
+use Rattle.sheet.specs.Layout.{headingRest, localsOf, refsOf, codeOf, sheetOf}
 use Rattle.livevar_transform.specs.declared.transform.Next.{Next}
 use Rattle.livevar_transform.specs.declared.rewrite.Rewritten.{Rewritten}
 use Rattle.livevar_transform.specs.declared.rewrite.Rewritten.the-variants.{Length, Refused}
 use Rattle.livevar_analysis.specs.Analysis.{LiveVarInfo, analyze}
 use Rattle.livevar_analysis.specs.Output.{infosOf}
-use Rattle.livevar_transform.specs.Rewrite.{blockSize, nextFreeLabel, nextFreeAttr, lostRefs, isLosing, labelFor, attrFor, blockOn, addedCode, transformCode, Written, rewritten, writtenReply}
+use Rattle.livevar_transform.specs.Rewrite.{blockSize, lostRefs, isLosing, labelFor, attrFor, blockOn, addedCode, transformCode, Written, rewritten, writtenReply}
 use Rattle.livevar_transform.specs.RewriteLaws.{size-is, losing-some, pos, startOf, added-length, new-length}
 use Rattle.livevar_transform.specs.TransformLaws.{Known, Ready, Numbers, size}
 use Rattle.livevar_transform.specs.NewCodeLaws.{placed, Fitting, written-is, edge-room, added-are}
@@ -128,13 +126,13 @@ module _ {s info : List ℕ} {n refs : ℕ} {first last : Next} (h : Known s inf
     new-is = ap₂ (transformCode (codeOf s)) sets mask
 
     pick : Bool → Bool → List Bytecode → Written
-    pick x y new = cond x Written.NoNumber (cond y Written.TooLong (Written.Sheet (sheetOf (part s 6 506) new)))
+    pick x y new = cond x Written.NoNumber (cond y Written.TooLong (Written.Sheet (sheetOf (headingRest s) new)))
 
     rewritten-is : (x y : Bool) → spent first last ≡ x → ltb maxInstructions (length (transformCode (codeOf s) (infosOf n info) refs)) ≡ y → rewritten s ≡ pick x y (transformCode (codeOf s) (infosOf n info) refs)
     unfolding rewritten pick code is
     rewritten-is x y e f =
-        sym (ap₂ (λ (z : Bool) (new : List Bytecode). cond z Written.NoNumber (cond (ltb maxInstructions (length new)) Written.TooLong (Written.Sheet (sheetOf (part s 6 506) new)))) (sym e ∙ spent-is ∙ high-is) new-is)
-        ∙ ap (λ (z : Bool). cond x Written.NoNumber (cond z Written.TooLong (Written.Sheet (sheetOf (part s 6 506) (transformCode (codeOf s) (infosOf n info) refs))))) f
+        sym (ap₂ (λ (z : Bool) (new : List Bytecode). cond z Written.NoNumber (cond (ltb maxInstructions (length new)) Written.TooLong (Written.Sheet (sheetOf (headingRest s) new)))) (sym e ∙ spent-is ∙ high-is) new-is)
+        ∙ ap (λ (z : Bool). cond x Written.NoNumber (cond z Written.TooLong (Written.Sheet (sheetOf (headingRest s) (transformCode (codeOf s) (infosOf n info) refs))))) f
 
     answers : (w : Written) (before after : List ℕ) (r : Rewritten) → rewritten s ≡ w → rewriteResult r ≡ resultOf (writtenReply w) → after ≡ left (writtenReply w) before → Answers s before r after
     answers w before after r e p q = record { result = p ∙ ap (λ (x : Written). resultOf (writtenReply x)) (sym e); written = q ∙ ap (λ (x : Written). left (writtenReply x) before) (sym e) }
@@ -149,12 +147,12 @@ module _ {s info : List ℕ} {n refs : ℕ} {first last : Next} (h : Known s inf
     answers-long kept before k e l = answers Written.TooLong before before (Refused CodeTooLong) (rewritten-is false true e (lt-ltb maxInstructions (length (transformCode (codeOf s) (infosOf n info) refs)) (omega (arith, length-is kept k)))) refl refl
 
     pub answers-sheet : (kept l : ℕ) (before after : List ℕ) → kept ≡ pos (codeOf s) (infosOf n info) n → spent first last ≡ false → kept + (last .attr - first .attr) ≤ maxInstructions
-        → l ≡ length (sheetOf (part s 6 506) (transformCode (codeOf s) (infosOf n info) refs))
-        → after ≡ sheetOf (part s 6 506) (transformCode (codeOf s) (infosOf n info) refs) ++ drop (length (sheetOf (part s 6 506) (transformCode (codeOf s) (infosOf n info) refs))) before
+        → l ≡ length (sheetOf (headingRest s) (transformCode (codeOf s) (infosOf n info) refs))
+        → after ≡ sheetOf (headingRest s) (transformCode (codeOf s) (infosOf n info) refs) ++ drop (length (sheetOf (headingRest s) (transformCode (codeOf s) (infosOf n info) refs))) before
         → Answers s before (Length l) after
     unfolding pick writtenReply resultOf left
     answers-sheet kept l before after k e f p q =
-        answers (Written.Sheet (sheetOf (part s 6 506) (transformCode (codeOf s) (infosOf n info) refs))) before after (Length l) (rewritten-is false false e (le-ltb maxInstructions (length (transformCode (codeOf s) (infosOf n info) refs)) (omega (arith, length-is kept k))))
+        answers (Written.Sheet (sheetOf (headingRest s) (transformCode (codeOf s) (infosOf n info) refs))) before after (Length l) (rewritten-is false false e (le-ltb maxInstructions (length (transformCode (codeOf s) (infosOf n info) refs)) (omega (arith, length-is kept k))))
         (ap (λ (x : ℕ). record { number = 0; value = x }) p) q
 
 -- ---- the records of the new code

@@ -1,28 +1,28 @@
 -- What rewriting reads: an accepted sheet, the offsets of its labels and the bytes that live wrote; and what each step over them gives. Assumes nothing.
 use mathlib.Core.Path.{_≡_, refl, sym, ap, ap₂, _∙_, subst}
-use mathlib.Core.Logic.{_⊎_, inl, inr, _≢_, ⊎-elim}
+use mathlib.Core.Logic.{_⊎_, inl, inr, ⊎-elim}
 use mathlib.Core.Bool.{Bool, true, false, cond, not, _||_, _&&_}
 use mathlib.Core.List.{List, [], _∷_, _++_, map, List·Memᴰ, List·Memᴰ·head, List·Memᴰ·tail}
 use Prim.Native.Nat.{ℕ, zero, suc, _+_, _-_, _*_, _/_, _%_, _^_, _≤_, _<_, max}
 use native.Mathlib.Nat.{zero-add, add-zero, suc-add, mod-lt}
 use native.Mathlib.Numerals.{add-one}
 use native.Mathlib.Omega.{arith}
-use borrow.Author.Tests.{eq-eqb, ne-eqb, eqb-true, lt-ltb, le-ltb, ltb-true}
+use borrow.Author.Tests.{eq-eqb, ne-eqb, lt-ltb}
 use lib.Bits.{bitAnd}
 use lib.Count.{ones}
 use lib.Dec.{eqb, ltb}
 use lib.ListN.{getD, length, take, drop, drop-of-length-le}
-use lib.Seq.{take-nil, take-take, drop-drop, take-at, drop-at, drop-cons}
+use lib.Seq.{take-nil, take-take, drop-drop, drop-cons}
 use Rattle.base.specs.Sizes.{setBytes, maxLocals, maxNumber, maxInstructions, recordBytes, blockBytes}
 use Rattle.base.specs.Refusals.{Accepted}
-use Rattle.base.specs.Lists.{tab, keep, count, total, joins, gather}
+use Rattle.base.specs.Lists.{keep, count, total, gather}
 use Rattle.base.specs.Bytes.{number, part}
-use Rattle.base.specs.ListLaws.{by-test, by-eq, getD-tab, length-tab}
+use Rattle.base.specs.ListLaws.{by-test, by-eq, getD-tab}
 use Rattle.base.specs.JoinLaws.{count-le}
-use Rattle.dataflow_domains.specs.Mask.{bit, holds, minus}
+use Rattle.dataflow_domains.specs.Mask.{holds, minus}
 use Rattle.dataflow_domains.specs.MaskLaws.{ext, bit-and, bit-minus, bit-lt, sub-empty, ones-zero, ones-same}
 use Rattle.dataflow_domains.specs.Members.{members}
-use Rattle.dataflow_domains.specs.MemberLaws.{walk-end, walk-more, members-length}
+use Rattle.dataflow_domains.specs.MemberLaws.{walk-end, members-length}
 use Rattle.stackless_bytecode.specs.declared.Bytecode.{Bytecode}
 use Rattle.stackless_bytecode.specs.Kinds.{at, nop, branchDests, labelOf}
 use Rattle.stackless_bytecode.specs.KindLaws.{branch-names}

@@ -2,7 +2,7 @@
 use mathlib.Core.Path.{_≡_, refl, sym, ap, ap₂, _∙_}
 use mathlib.Core.Bool.{Bool, true, false, cond, _||_, _&&_, true≢false}
 use mathlib.Core.List.{List, [], _∷_, _++_, append-nil}
-use Prim.Native.Nat.{ℕ, zero, suc, _+_, _*_, _≤_, _<_}
+use Prim.Native.Nat.{ℕ, zero, suc, _*_, _≤_, _<_}
 use native.Mathlib.Omega.{arith}
 use borrow.Author.Tests.{le-ltb, ltb-false}
 use lib.Dec.{ltb}
@@ -10,12 +10,10 @@ use lib.ListN.{length, take}
 use lib.Seq.{take-suc, take-length}
 use Rattle.base.specs.Sizes.{maxNumber, maxInstructions}
 use Rattle.base.specs.Lists.{joins}
-use Rattle.base.specs.Bytes.{part}
 use Rattle.base.specs.Refusals.{Accepted}
-use Rattle.base.specs.ListLaws.{by-test}
 use Rattle.stackless_bytecode.specs.declared.Bytecode.{Bytecode}
 use Rattle.stackless_bytecode.specs.Kinds.{at, nop}
-use Rattle.sheet.specs.Layout.{refsOf, codeOf, sheetOf}
+use Rattle.sheet.specs.Layout.{headingRest, refsOf, codeOf, sheetOf}
 use Rattle.sheet.specs.Checks.{checkSheet}
 use Rattle.sheet.specs.AcceptedLaws.{Bytes, accepted-body}
 use Rattle.livevar_analysis.specs.Analysis.{LiveVarInfo}
@@ -81,6 +79,6 @@ pub unchanged : (s : List ℕ) → Bytes s → checkSheet s ≡ Accepted → Unt
 unfolding rewritten
 unchanged s bytes e h =
     ap₂ (λ (new added : List Bytecode). cond (ltb 0 (length added) && (ltb (suc maxNumber) (labelFor (codeOf s) (sheetInfo s) (refsOf s) (2 * length (codeOf s))) || ltb (suc maxNumber) (attrFor (codeOf s) (sheetInfo s) (refsOf s) (2 * length (codeOf s))))) Written.NoNumber
-    (cond (ltb maxInstructions (length new)) Written.TooLong (Written.Sheet (sheetOf (part s 6 506) new)))) (same-code (codeOf s) (sheetInfo s) (refsOf s) h) (none-added (codeOf s) (sheetInfo s) (refsOf s) h)
-    ∙ ap (λ (b : Bool). cond b Written.TooLong (Written.Sheet (sheetOf (part s 6 506) (codeOf s)))) (le-ltb maxInstructions (length (codeOf s)) (accepted-body s bytes e .few))
+    (cond (ltb maxInstructions (length new)) Written.TooLong (Written.Sheet (sheetOf (headingRest s) new)))) (same-code (codeOf s) (sheetInfo s) (refsOf s) h) (none-added (codeOf s) (sheetInfo s) (refsOf s) h)
+    ∙ ap (λ (b : Bool). cond b Written.TooLong (Written.Sheet (sheetOf (headingRest s) (codeOf s)))) (le-ltb maxInstructions (length (codeOf s)) (accepted-body s bytes e .few))
     ∙ ap (λ (t : List ℕ). Written.Sheet t) (whole-again s bytes e)

@@ -1,27 +1,26 @@
 -- An accepted sheet of bytes is what its heading and its code write. Assumes nothing.
 use mathlib.Core.Path.{_≡_, refl, sym, ap, ap₂, _∙_, subst}
-use mathlib.Core.Bool.{Bool, true, false, cond, _||_, _&&_}
-use mathlib.Core.List.{List, [], _∷_, _++_, List·Memᴰ}
+use mathlib.Core.Bool.{Bool, true, cond, _||_, _&&_}
+use mathlib.Core.List.{List, [], _∷_}
 use Prim.Native.Nat.{ℕ, zero, suc, _+_, _-_, _*_, _/_, _%_, _≤_, _<_}
-use native.Mathlib.Nat.{zero-add, mod-lt, not-suc-le-zero, le-of-suc-le-suc}
+use native.Mathlib.Nat.{zero-add, mod-lt}
 use native.Mathlib.Omega.{arith}
-use borrow.Author.Tests.{eqb-true, ne-eqb, lt-ltb, le-ltb}
+use borrow.Author.Tests.{eqb-true, ne-eqb, le-ltb}
 use lib.Dec.{eqb, ltb}
-use lib.ListN.{getD, length, take, drop, length-take, length-drop, List·getD-eq-default}
+use lib.ListN.{getD, length, take, drop, length-take, length-drop}
 use lib.Seq.{getD-take, getD-drop, ext-getD}
 use Rattle.base.specs.Refusals.{Accepted}
 use Rattle.base.specs.Lists.{tab, sum, zeros}
 use Rattle.base.specs.Bytes.{bytesOf, part, u16At}
 use Rattle.base.specs.ListLaws.{and-true, by-eq, getD-tab, length-tab, in-getD}
 use Rattle.base.specs.JoinLaws.{by-lt}
-use Rattle.base.specs.PartLaws.{same-part}
 use Rattle.base.specs.SearchLaws.{none-all}
 use Rattle.stackless_bytecode.specs.Kinds.{nop, at}
-use Rattle.sheet.specs.Layout.{blockAt, checkOf, countOf, localsOf, recordBlocks, recordStart, recordAt, decode, instructionAt, codeOf, padded, encode, blockOf, sheetOf}
+use Rattle.sheet.specs.Layout.{headingRest, blockAt, checkOf, countOf, localsOf, recordBlocks, recordStart, recordAt, decode, instructionAt, codeOf, padded, encode, blockOf, sheetOf}
 use Rattle.sheet.specs.Checks.{blockOk, recordOk, placeOk, checkSheet}
-use Rattle.sheet.specs.CheckLaws.{Clear, clear, code-length}
-use Rattle.sheet.specs.EncodeLaws.{Small, Encodes, small-take, small-drop, sheet-small, sheet-length, record-part, zero-part, rest-again, count-again}
-use Rattle.sheet.specs.AcceptLaws.{Body, Heading, is-heading, accepted-again}
+use Rattle.sheet.specs.CheckLaws.{clear, code-length}
+use Rattle.sheet.specs.EncodeLaws.{Encodes, small-take, small-drop, sheet-small, sheet-length, record-part, rest-again, count-again}
+use Rattle.sheet.specs.AcceptLaws.{Body, is-heading, accepted-again}
 use Rattle.sheet.specs.AcceptedLaws.{Bytes, small-by, by-small, accepted-body}
 
 -- ---- one record
@@ -192,7 +191,7 @@ place-of q o p a h = place-by q o ((o - 32) / 32) ((o - 32) % 32) p (omega arith
 
 module _ (s : List ℕ) (bytes : Bytes s) (e : checkSheet s ≡ Accepted) where
   abbrev again : List ℕ
-  again = sheetOf (part s 6 506) (codeOf s)
+  again = sheetOf (headingRest s) (codeOf s)
 
   body : Body (localsOf s) (codeOf s)
   body = accepted-body s bytes e
@@ -200,7 +199,7 @@ module _ (s : List ℕ) (bytes : Bytes s) (e : checkSheet s ≡ Accepted) where
   n-is : length (codeOf s) ≡ countOf s
   n-is = code-length s
 
-  full : length (part s 6 506) ≡ 506
+  full : length (headingRest s) ≡ 506
   full = length-take 506 (drop 6 s) ∙ (omega (arith, length-drop 6 s, size s bytes e))
 
   again-accepted : checkSheet again ≡ Accepted
@@ -208,14 +207,14 @@ module _ (s : List ℕ) (bytes : Bytes s) (e : checkSheet s ≡ Accepted) where
 
   again-bytes : Bytes again
   again-bytes =
-      by-small again (sheet-small (part s 6 506) (codeOf s) (small-take 506 (drop 6 s) (small-drop 6 s (small-by s (λ i l. bytes .each i))))
+      by-small again (sheet-small (headingRest s) (codeOf s) (small-take 506 (drop 6 s) (small-drop 6 s (small-by s (λ i l. bytes .each i))))
       (λ r i. let p = in-getD (codeOf s) r nop i in subst Encodes (p .2) (body .encodes (p .0) (p .1))))
 
   again-count : countOf again ≡ countOf s
-  again-count = count-again (part s 6 506) (codeOf s) full (omega (arith, body .few)) ∙ n-is
+  again-count = count-again (headingRest s) (codeOf s) full (omega (arith, body .few)) ∙ n-is
 
   again-size : length s ≡ length again
-  again-size = size s bytes e ∙ sym (sheet-length (part s 6 506) (codeOf s) full ∙ ap (λ (x : ℕ). 512 * (1 + recordBlocks x)) n-is)
+  again-size = size s bytes e ∙ sym (sheet-length (headingRest s) (codeOf s) full ∙ ap (λ (x : ℕ). 512 * (1 + recordBlocks x)) n-is)
 
   -- the count, and the rest of the heading
   two-same : (a b c d : ℕ) → a < 256 → b < 256 → c < 256 → d < 256 → a + 256 * b ≡ c + 256 * d → (a ≡ c) × (b ≡ d)
@@ -230,7 +229,7 @@ module _ (s : List ℕ) (bytes : Bytes s) (e : checkSheet s ≡ Accepted) where
       (λ f. by-eq o 5 (λ q. ap (λ (x : ℕ). getD s x 0) q ∙ count-bytes .1 ∙ sym (ap (λ (x : ℕ). getD again x 0) q))
       (λ g. let place : 6 + (o - 6) ≡ o = omega arith in
       ap (λ (x : ℕ). getD s x 0) (sym place)
-      ∙ sym (rest-again (part s 6 506) (codeOf s) full (o - 6) (omega arith) ∙ getD-take 506 (drop 6 s) (o - 6) 0 (omega arith) ∙ getD-drop 6 s (o - 6) 0) ∙ ap (λ (x : ℕ). getD again x 0) place))
+      ∙ sym (rest-again (headingRest s) (codeOf s) full (o - 6) (omega arith) ∙ getD-take 506 (drop 6 s) (o - 6) 0 (omega arith) ∙ getD-drop 6 s (o - 6) 0) ∙ ap (λ (x : ℕ). getD again x 0) place))
 
   -- the records
   record-same : (k : ℕ) → k < countOf s → recordAt s k ≡ recordAt again k
@@ -238,7 +237,7 @@ module _ (s : List ℕ) (bytes : Bytes s) (e : checkSheet s ≡ Accepted) where
       let whole : length (recordAt s k) ≡ 32 = length-take 32 (drop (recordStart k) s) ∙ (unfold recordBlocks in omega (arith, length-drop (recordStart k) s, size s bytes e)) in
       let is : at (codeOf s) k ≡ decode (recordAt s k) = code-is in
       sym (bytes-again (recordAt s k) whole (by-small (recordAt s k) (small-take 32 (drop (recordStart k) s) (small-drop (recordStart k) s (small-by s (λ i g. bytes .each i))))))
-      ∙ ap encode (sym is) ∙ sym (record-part (part s 6 506) (codeOf s) full k (omega (arith, n-is)))
+      ∙ ap encode (sym is) ∙ sym (record-part (headingRest s) (codeOf s) full k (omega (arith, n-is)))
     where
       code-is : at (codeOf s) k ≡ decode (recordAt s k)
       code-is = unfold codeOf instructionAt in (getD-tab (countOf s) 0 k (instructionAt s) nop l ∙ ap (instructionAt s) (zero-add k))
@@ -266,5 +265,5 @@ module _ (s : List ℕ) (bytes : Bytes s) (e : checkSheet s ≡ Accepted) where
       (λ g. later-byte (j / 512) (j % 512) (omega arith) (omega arith) g small))
       ∙ ap (λ (x : ℕ). getD again x 0) place
 
-  pub whole-again : sheetOf (part s 6 506) (codeOf s) ≡ s
+  pub whole-again : sheetOf (headingRest s) (codeOf s) ≡ s
   whole-again = sym (same-sheet s again bytes again-bytes e again-accepted again-size same-byte)

@@ -4,11 +4,11 @@ ghost use mathlib.Core.List.{List, _++_};
 ghost use Prim.Native.Nat.{_+_, _-_, _*_, _<_, _≤_};
 ghost use lib.ListN.{length, take, drop, replicate};
 ghost use Rattle.base.specs.Sizes.{blockBytes, maxBytes, maxBlocks, maxInstructions, maxNumber};
-ghost use Rattle.base.specs.Bytes.{bytesOf, part};
+ghost use Rattle.base.specs.Bytes.{bytesOf};
 ghost use Rattle.base.specs.Refusals.{resultOf, left};
 ghost use Rattle.dataflow_domains.specs.Sets.{mask};
 ghost use Rattle.stackless_bytecode.specs.declared.Bytecode.{Bytecode};
-ghost use Rattle.sheet.specs.Layout.{refsOf, codeOf, blockOf, recordBlocks, sheetOf};
+ghost use Rattle.sheet.specs.Layout.{headingRest, refsOf, codeOf, blockOf, recordBlocks, sheetOf};
 ghost use Rattle.stackless_control_flow_graph.specs.Arrays.{Given};
 ghost use Rattle.livevar_analysis.specs.Output.{infosOf};
 ghost use Rattle.livevar_transform.specs.Rewrite.{transformCode, rewriteReply};
@@ -89,7 +89,7 @@ fn seal(b: u16, out: &mut [u8])
 // The heading of the sheet s, with another count.
 fn put_heading(s: &[u8], n: usize, out: &mut [u8])
     requires { ⌜ (blockBytes ≤ length (now s)) × (n ≤ maxNumber) × (length (now out) ≡ blockBytes) ⌝ }
-    ensures { λ _. ⌜ now (out .exit) ≡ blockOf 0 (bytesOf 2 n ++ part (now (s .entry)) 6 (blockBytes - 6)) ⌝ }
+    ensures { λ _. ⌜ now (out .exit) ≡ blockOf 0 (bytesOf 2 n ++ headingRest (now (s .entry))) ⌝ }
 {
     copy(&s[6..BLOCK_BYTES], &mut out[6..BLOCK_BYTES]);
     put_u16(&mut out[4..6], n as u16);
@@ -128,7 +128,7 @@ fn put_all_later(flat: &[u8], m: usize, out: &mut [u8])
 // The sheet with the heading of s and the n instructions whose records stand in `flat`; its length.
 fn write_sheet(s: &[u8], n: usize, flat: &[u8], out: &mut [u8]) -> u32
     requires { ⌜ (blockBytes ≤ length (now s)) × (n ≤ maxInstructions) × (bodyBytes * recordBlocks n ≤ length (now flat)) × (maxBytes ≤ length (now out)) ⌝ }
-    ensures { λ r. ⌜ ((code : List Bytecode) → n ≡ length code → Holds (now (flat .entry)) code → (r ≡ length (sheetOf (part (now (s .entry)) 6 (blockBytes - 6)) code)) × (now (out .exit) ≡ sheetOf (part (now (s .entry)) 6 (blockBytes - 6)) code ++ drop (length (sheetOf (part (now (s .entry)) 6 (blockBytes - 6)) code)) (now (out .entry)))) ⌝ }
+    ensures { λ r. ⌜ ((code : List Bytecode) → n ≡ length code → Holds (now (flat .entry)) code → (r ≡ length (sheetOf (headingRest (now (s .entry))) code)) × (now (out .exit) ≡ sheetOf (headingRest (now (s .entry))) code ++ drop (length (sheetOf (headingRest (now (s .entry))) code)) (now (out .entry)))) ⌝ }
 {
     let m = record_blocks(n);
     put_heading(s, n, &mut out[0..BLOCK_BYTES]);
@@ -165,7 +165,7 @@ fn write_new(
     out: &mut [u8],
 ) -> u32
     requires { ⌜ Ready (now s) (now targets) (now info) n × Numbers (now s) (now info) n (mask refs) 0 first × Fitting (now s) (now info) n (mask refs) × (m ≡ length (transformCode (codeOf (now s)) (infosOf n (now info)) (mask refs))) × Blank (now flat) × (maxBytes ≤ length (now out)) ⌝ }
-    ensures { λ r. ⌜ (r ≡ length (sheetOf (part (now (s .entry)) 6 (blockBytes - 6)) (transformCode (codeOf (now (s .entry))) (infosOf n (now (info .entry))) (mask refs)))) × (now (out .exit) ≡ sheetOf (part (now (s .entry)) 6 (blockBytes - 6)) (transformCode (codeOf (now (s .entry))) (infosOf n (now (info .entry))) (mask refs)) ++ drop (length (sheetOf (part (now (s .entry)) 6 (blockBytes - 6)) (transformCode (codeOf (now (s .entry))) (infosOf n (now (info .entry))) (mask refs)))) (now (out .entry))) ⌝ }
+    ensures { λ r. ⌜ (r ≡ length (sheetOf (headingRest (now (s .entry))) (transformCode (codeOf (now (s .entry))) (infosOf n (now (info .entry))) (mask refs)))) × (now (out .exit) ≡ sheetOf (headingRest (now (s .entry))) (transformCode (codeOf (now (s .entry))) (infosOf n (now (info .entry))) (mask refs)) ++ drop (length (sheetOf (headingRest (now (s .entry))) (transformCode (codeOf (now (s .entry))) (infosOf n (now (info .entry))) (mask refs)))) (now (out .entry))) ⌝ }
 {
     transform_code(s, targets, info, n, refs, first, flat);
     write_sheet(s, m, flat, out)

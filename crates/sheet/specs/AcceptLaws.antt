@@ -15,7 +15,7 @@ use Rattle.base.specs.Sizes.{maxInstructions, maxLocals, setBytes, blockBytes}
 use Rattle.base.specs.Refusals.{Answer, Accepted, refuse, whole}
 use Rattle.base.specs.Lists.{gather, all, any, zeros, has}
 use Rattle.base.specs.Bytes.{number, part, u16At}
-use Rattle.sheet.specs.Layout.{userLocalsOf, parametersOf, blockAt, checkOf, countOf, localsOf, refsOf, recordBlocks, recordStart, decode, codeOf, sheetOf}
+use Rattle.sheet.specs.Layout.{headingRest, userLocalsOf, parametersOf, blockAt, checkOf, countOf, localsOf, refsOf, recordBlocks, recordStart, decode, codeOf, sheetOf}
 use Rattle.stackless_bytecode.specs.Kinds.{nop, at, fallsThrough, branchDests, labelOf}
 use Rattle.stackless_bytecode.specs.Successors.{labelOffset}
 use Rattle.sheet.specs.Checks.{lengthOk, blockOk, headingOk, recordOk, placeOk, localsOk, fresh, namesOk, checkForm, checkCode, checkSheet}
@@ -169,22 +169,22 @@ module _ (s : List ℕ) (e : checkSheet s ≡ Accepted) (code : List Bytecode) (
   old = is-heading s (clear s e .three)
 
   abbrev sheet : List ℕ
-  sheet = sheetOf (part s 6 506) code
+  sheet = sheetOf (headingRest s) code
 
   long : 1024 ≤ length s
   long = unfold recordBlocks in omega (arith, old .size, old .some)
 
-  full : length (part s 6 506) ≡ 506
+  full : length (headingRest s) ≡ 506
   full = length-take 506 (drop 6 s) ∙ (omega (arith, length-drop 6 s, long))
 
   new-size : length sheet ≡ 512 * (1 + recordBlocks (length code))
-  new-size = sheet-length (part s 6 506) code full
+  new-size = sheet-length (headingRest s) code full
 
   same-byte : (j : ℕ) → 6 ≤ j → j < 512 → getD sheet j 0 ≡ getD s j 0
   same-byte j l h =
       let i = j - 6 in
       let is : 6 + i ≡ j = omega arith in
-      ap (λ (x : ℕ). getD sheet x 0) (sym is) ∙ rest-again (part s 6 506) code full i (omega arith)
+      ap (λ (x : ℕ). getD sheet x 0) (sym is) ∙ rest-again (headingRest s) code full i (omega arith)
       ∙ getD-take 506 (drop 6 s) i 0 (omega arith) ∙ getD-drop 6 s i 0 ∙ ap (λ (x : ℕ). getD s x 0) is
 
   same-u16 : (j : ℕ) → 6 ≤ j → j < 511 → u16At sheet j ≡ u16At s j
@@ -193,27 +193,27 @@ module _ (s : List ℕ) (e : checkSheet s ≡ Accepted) (code : List Bytecode) (
   pub same-bytes : (a c : ℕ) → 6 ≤ a → a + c ≤ 512 → part sheet a c ≡ part s a c
   same-bytes a c l h = same-part sheet s a c (omega (arith, new-size)) (omega (arith, long)) (λ i b. same-byte (a + i) (omega arith) (omega arith))
 
-  pub same-locals : localsOf (sheetOf (part s 6 506) code) ≡ localsOf s
+  pub same-locals : localsOf (sheetOf (headingRest s) code) ≡ localsOf s
   unfolding localsOf
   same-locals = same-u16 6 (omega arith) (omega arith)
 
-  pub same-users : userLocalsOf (sheetOf (part s 6 506) code) ≡ userLocalsOf s
+  pub same-users : userLocalsOf (sheetOf (headingRest s) code) ≡ userLocalsOf s
   unfolding userLocalsOf
   same-users = same-u16 8 (omega arith) (omega arith)
 
-  pub same-params : parametersOf (sheetOf (part s 6 506) code) ≡ parametersOf s
+  pub same-params : parametersOf (sheetOf (headingRest s) code) ≡ parametersOf s
   unfolding parametersOf
   same-params = same-u16 10 (omega arith) (omega arith)
 
-  pub same-refs : refsOf (sheetOf (part s 6 506) code) ≡ refsOf s
+  pub same-refs : refsOf (sheetOf (headingRest s) code) ≡ refsOf s
   unfolding refsOf
   same-refs = ap number (same-bytes 16 setBytes (omega arith) (omega arith))
 
-  pub same-count : countOf (sheetOf (part s 6 506) code) ≡ length code
-  same-count = count-again (part s 6 506) code full (omega (arith, body .few))
+  pub same-count : countOf (sheetOf (headingRest s) code) ≡ length code
+  same-count = count-again (headingRest s) code full (omega (arith, body .few))
 
-  pub same-code : codeOf (sheetOf (part s 6 506) code) ≡ code
-  same-code = code-again (part s 6 506) code full (omega (arith, body .few)) (body .encodes)
+  pub same-code : codeOf (sheetOf (headingRest s) code) ≡ code
+  same-code = code-again (headingRest s) code full (omega (arith, body .few)) (body .encodes)
 
   new-heading : Heading sheet
   new-heading = record {
@@ -242,15 +242,15 @@ module _ (s : List ℕ) (e : checkSheet s ≡ Accepted) (code : List Bytecode) (
   block-ok : (b : ℕ) → b < 1 + recordBlocks (length code) → blockOk (blockAt sheet b) b ≡ true
   unfolding blockOk
   block-ok zero h =
-      let is = first-block (part s 6 506) code full in
+      let is = first-block (headingRest s) code full in
       ap (λ (p : List ℕ). eqb (u16At p 0) 0 && eqb (u16At p 2) (checkOf p) && (eqb 0 0 || zeros (part p 4 28))) is
-      ∙ and-both (and-both (eq-eqb _ 0 (heading-number (part s 6 506) code full)) (eq-eqb _ _ (heading-check (part s 6 506) code full))) refl
+      ∙ and-both (and-both (eq-eqb _ 0 (heading-number (headingRest s) code full)) (eq-eqb _ _ (heading-check (headingRest s) code full))) refl
   block-ok (suc b) h =
       let one : suc b ≡ 1 + b = omega arith in
-      let is = ap (blockAt sheet) one ∙ later-block (part s 6 506) code full b (omega arith) in
+      let is = ap (blockAt sheet) one ∙ later-block (headingRest s) code full b (omega arith) in
       ap (λ (p : List ℕ). eqb (u16At p 0) (suc b) && eqb (u16At p 2) (checkOf p) && (eqb (suc b) 0 || zeros (part p 4 28))) is
-      ∙ and-both (and-both (eq-eqb _ (suc b) (later-number (part s 6 506) code full b (omega (arith, few-blocks)) ∙ sym one)) (eq-eqb _ _ (later-check (part s 6 506) code full b)))
-      (ap (λ (x : Bool). eqb (suc b) 0 || x) (later-zeros (part s 6 506) code full b) ∙ either (eqb (suc b) 0))
+      ∙ and-both (and-both (eq-eqb _ (suc b) (later-number (headingRest s) code full b (omega (arith, few-blocks)) ∙ sym one)) (eq-eqb _ _ (later-check (headingRest s) code full b)))
+      (ap (λ (x : Bool). eqb (suc b) 0 || x) (later-zeros (headingRest s) code full b) ∙ either (eqb (suc b) 0))
     where
       either : (x : Bool) → x || true ≡ true
       either true = refl
@@ -261,12 +261,12 @@ module _ (s : List ℕ) (e : checkSheet s ≡ Accepted) (code : List Bytecode) (
   place-ok k h =
       by-lt k (length code)
       (λ l. ap (λ (b : Bool). cond b (recordOk (decode (part sheet (recordStart k) 32))) (zeros (part sheet (recordStart k) 32))) (lt-ltb k (countOf sheet) (omega (arith, same-count)))
-      ∙ ap recordOk (ap decode (record-part (part s 6 506) code full k l) ∙ record-again (at code k) (body .encodes k l)) ∙ body .fits k l)
+      ∙ ap recordOk (ap decode (record-part (headingRest s) code full k l) ∙ record-again (at code k) (body .encodes k l)) ∙ body .fits k l)
       (λ l. ap (λ (b : Bool). cond b (recordOk (decode (part sheet (recordStart k) 32))) (zeros (part sheet (recordStart k) 32))) (le-ltb k (countOf sheet) (omega (arith, same-count)))
-      ∙ zero-part (part s 6 506) code full k l h)
+      ∙ zero-part (headingRest s) code full k l h)
 
   -- it is accepted
-  pub accepted-again : checkSheet (sheetOf (part s 6 506) code) ≡ Accepted
+  pub accepted-again : checkSheet (sheetOf (headingRest s) code) ≡ Accepted
   unfolding checkSheet checkForm
   accepted-again =
       accept 1 _ _ (whole-none _ length-ok)

@@ -1,7 +1,7 @@
 -- `livevar_transform::rewrite::write_sheet` meets its contract. Assumes nothing.
-use Prim.Native.Nat.{ℕ, _*_, _-_}
-use Rattle.sheet.specs.Layout.{recordBlocks, blockOf}
-use Rattle.base.specs.Bytes.{bytesOf, part}
+use Prim.Native.Nat.{ℕ, _*_}
+use Rattle.sheet.specs.Layout.{headingRest, recordBlocks, blockOf}
+use Rattle.base.specs.Bytes.{bytesOf}
 use Prim.Native.Nat.{ℕ, _*_}
 use mathlib.Core.List.{_++_}
 use lib.ListN.{drop}
@@ -60,7 +60,7 @@ returns c =
     λ code e h.
     let m = c .before .before .before .before .before .before .before .before .record-blocks .ensures .0 ∙ ap recordBlocks e in
     let long = heading-rest (c .before .before .before .before .before .before .before .before .before .before .before .before .args .s .now) _ (c .before .before .before .before .before .before .before .before .before .before .before .before .pre .0) refl in
-    (sheet-size _ code _ h _ long m, sheet-written _ code _ h _ (c .before .before .before .before .before .before .before .before .before .before .before .before .args .out .now) _ _ long m (c .before .before .before .before .before .before .put-heading .ensures ∙ ap (λ (x : ℕ). blockOf 0 (bytesOf 2 x ++ part (c .before .before .before .before .before .before .before .before .before .before .before .before .args .s .now) 6 (blockBytes - 6))) e) (c .before .before .put-all-later .ensures))
+    (sheet-size _ code _ h _ long m, sheet-written _ code _ h _ (c .before .before .before .before .before .before .before .before .before .before .before .before .args .out .now) _ _ long m (c .before .before .before .before .before .before .put-heading .ensures ∙ ap (λ (x : ℕ). blockOf 0 (bytesOf 2 x ++ headingRest (c .before .before .before .before .before .before .before .before .before .before .before .before .args .s .now))) e) (c .before .before .put-all-later .ensures))
 
 pub write-sheet-spec : {M : Type 1} → statement M
 write-sheet-spec =
