@@ -2,6 +2,7 @@
 //!
 //! Every call takes any slices at all. A refusal leaves what was lent as it was.
 pub mod oracle;
+pub mod page;
 pub mod plain;
 pub mod random;
 pub mod sheet;

@@ -4,3 +4,6 @@ pub mod Page
 pub mod Output
 pub mod WordLaws
 pub mod CodeLaws
+pub mod PageLaws
+pub mod Size
+pub mod SizeLaws

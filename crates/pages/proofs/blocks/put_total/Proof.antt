@@ -1,0 +1,31 @@
+-- `pages::blocks::put_total` meets its contract. Assumes nothing.
+use borrow.Author.Needs.{needs}
+use native.Mathlib.Omega.{arith}
+use Rattle.pages.specs.Output.{wrote-as, wrote-then}
+use Rattle.pages.specs.PageLaws.{total-is}
+use Rattle.pages.proofs.blocks.put_total.Statement.{statement}
+use Rattle.pages.proofs.blocks.put_total.Tie as tie
+use Rattle.pages.proofs.blocks.put_total.Reads as reads
+use Rattle.pages.proofs.blocks.put_total.Lts as lts
+use Rattle.pages.proofs.output.put_bytes.Reads as put-bytes-reads
+use Rattle.pages.proofs.output.put_number.Reads as put-number-reads
+
+put-number-requires : tie.Need-put-number-requires
+put-number-requires c κs = search needs
+
+slice-aggregate-put-bytes : tie.Need-slice-aggregate-put-bytes
+slice-aggregate-put-bytes c = search needs
+
+put-bytes-requires : tie.Need-put-bytes-requires
+put-bytes-requires c κs = search needs
+
+same-length : tie.Need-same-length
+same-length c = search needs
+
+returns : tie.Need-returns
+returns c = wrote-as (total-is _ _) (wrote-then (c .before .before .before .before .before .before .before .put-number .ensures) (c .before .before .put-bytes .ensures))
+
+pub put-total-spec : {M : Type 1} → statement M
+put-total-spec =
+    tie.close
+    (tie.spec put-number-requires slice-aggregate-put-bytes put-bytes-requires same-length returns)

@@ -1,0 +1,59 @@
+-- `pages::page::put_refused` meets its contract. Assumes nothing.
+use borrow.Author.Needs.{needs}
+use native.Mathlib.Omega.{arith}
+use Prim.Native.Nat.{ℕ}
+use Rattle.pages.specs.Output.{wrote-as, wrote-by, wrote-then}
+use Rattle.pages.specs.Words.{ascii, said}
+use Rattle.pages.specs.PageLaws.{refused-is}
+use Rattle.pages.proofs.page.put_refused.Statement.{statement}
+use Rattle.pages.proofs.page.put_refused.Tie as tie
+use Rattle.pages.proofs.page.put_refused.Reads as reads
+use Rattle.pages.proofs.page.put_refused.Lts as lts
+use Rattle.pages.proofs.output.put_bytes.Reads as put-bytes-reads
+use Rattle.pages.proofs.output.put_number.Reads as put-number-reads
+use Rattle.pages.proofs.page.wide16.Reads as wide16-reads
+
+slice-aggregate-put-number : tie.Need-slice-aggregate-put-number
+slice-aggregate-put-number c = search needs
+
+wide16-requires : tie.Need-wide16-requires
+wide16-requires c κs = search needs
+
+put-number-requires : tie.Need-put-number-requires
+put-number-requires c κs = search needs
+
+slice-aggregate-put-number-2 : tie.Need-slice-aggregate-put-number-2
+slice-aggregate-put-number-2 c = search needs
+
+wide16-requires-2 : tie.Need-wide16-requires-2
+wide16-requires-2 c κs = search needs
+
+put-number-requires-2 : tie.Need-put-number-requires-2
+put-number-requires-2 c κs = search needs
+
+slice-aggregate-put-bytes : tie.Need-slice-aggregate-put-bytes
+slice-aggregate-put-bytes c = search needs
+
+put-bytes-requires : tie.Need-put-bytes-requires
+put-bytes-requires c κs = search needs
+
+same-length : tie.Need-same-length
+same-length c = search needs
+
+returns : tie.Need-returns
+returns c = wrote-as (refused-is _ _) (wrote-then (wrote-then (wrote-by (λ (x : ℕ). said (ascii "refused ") x) (c .before .before .before .before .before .before .before .before .before .before .before .before .before .before .before .wide16 .ensures) (c .before .before .before .before .before .before .before .before .before .before .before .before .before .put-number .ensures)) (wrote-by (λ (x : ℕ). said (ascii " ") x) (c .before .before .before .before .before .before .before .before .before .wide162 .ensures) (c .before .before .before .before .before .before .before .put-number2 .ensures))) (c .before .before .put-bytes .ensures))
+
+pub put-refused-spec : {M : Type 1} → statement M
+put-refused-spec =
+    tie.close
+    (tie.spec
+    slice-aggregate-put-number
+    wide16-requires
+    put-number-requires
+    slice-aggregate-put-number-2
+    wide16-requires-2
+    put-number-requires-2
+    slice-aggregate-put-bytes
+    put-bytes-requires
+    same-length
+    returns)

@@ -1,0 +1,50 @@
+-- `pages::sets::put_set` meets its contract. Assumes nothing.
+use borrow.Author.Needs.{needs}
+use native.Mathlib.Omega.{arith}
+use Rattle.pages.specs.Output.{wrote-as, wrote-then}
+use Rattle.pages.specs.WordLaws.{put-digits, digits-long}
+use Rattle.pages.specs.PageLaws.{set-is}
+use Rattle.pages.proofs.sets.put_set.Statement.{statement}
+use Rattle.pages.proofs.sets.put_set.Tie as tie
+use Rattle.pages.proofs.sets.put_set.Reads as reads
+use Rattle.pages.proofs.sets.put_set.Lts as lts
+use Rattle.listing.proofs.numbers.put_set.Reads as put-set-reads
+use Rattle.pages.proofs.code.put_locals.Reads as put-locals-reads
+use Rattle.pages.proofs.output.put_bytes.Reads as put-bytes-reads
+
+slice-aggregate-put-set : tie.Need-slice-aggregate-put-set
+slice-aggregate-put-set c = search needs
+
+put-set-requires : tie.Need-put-set-requires
+put-set-requires c κs = search needs
+
+array-share-prefix-digits : tie.Need-array-share-prefix-digits
+array-share-prefix-digits c = search needs
+
+slice-aggregate-put-bytes : tie.Need-slice-aggregate-put-bytes
+slice-aggregate-put-bytes c = digits-long (c .before .before .put-set .ensures)
+
+put-bytes-requires : tie.Need-put-bytes-requires
+put-bytes-requires c κs = search needs
+
+put-locals-requires : tie.Need-put-locals-requires
+put-locals-requires c κs = search needs
+
+same-length : tie.Need-same-length
+same-length c = search needs
+
+returns : tie.Need-returns
+returns c = wrote-as (set-is _) (wrote-then (wrote-as (put-digits (c .before .before .before .before .before .before .before .before .before .before .put-set .ensures)) (c .before .before .before .before .before .before .put-bytes .ensures)) (c .before .before .put-locals .ensures))
+
+pub put-set-spec : {M : Type 1} → statement M
+put-set-spec =
+    tie.close
+    (tie.spec
+    slice-aggregate-put-set
+    put-set-requires
+    array-share-prefix-digits
+    slice-aggregate-put-bytes
+    put-bytes-requires
+    put-locals-requires
+    same-length
+    returns)
