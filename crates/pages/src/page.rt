@@ -17,10 +17,25 @@ use crate::output::put_bytes;
 use crate::output::put_number;
 use crate::sets::put_live;
 use base::MAX_BYTES;
+use base::MAX_INSTRUCTIONS;
+use base::MAX_LOCALS;
+use base::SET_BYTES;
 use livevar_transform::rewrite::Rewritten;
 use livevar_transform::rewrite::rewrite;
 use sheet::Checked;
 use sheet::check::check;
+
+// The locals of a set: three digits each, and " t".
+const LOCALS_BYTES: usize = 5 * MAX_LOCALS;
+
+// A sheet's code: the heading, and lines with eight destinations and eight sources.
+const CODE_BYTES: usize = 100 + LOCALS_BYTES + MAX_INSTRUCTIONS * 580;
+
+// The lines of a block and of an instruction's sets.
+const LINE_BYTES: usize = 150 + 40 + 2 * (1 + 2 * SET_BYTES + LOCALS_BYTES);
+
+// Room for the longest page.
+pub const PAGE_BYTES: usize = 2 * CODE_BYTES + MAX_INSTRUCTIONS * LINE_BYTES + 100;
 
 fn wide16(x: u16) -> u32
     ensures { λ r. ⌜ r ≡ x ⌝ }

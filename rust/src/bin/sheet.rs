@@ -1,5 +1,6 @@
-//! Sheets by hand: `sheet assemble TEXT SHEET` writes the sheet of a text, `sheet list SHEET` prints the text of a sheet.
-use sorzibelu::{check, sheet::Sheet, text};
+//! Sheets by hand: `sheet assemble TEXT SHEET` writes the sheet of a text, `sheet list SHEET` prints the text of a sheet,
+//! `sheet page SHEET` its page by the plain reading.
+use sorzibelu::{check, page::page, sheet::Sheet, text};
 use std::{env, fs, process::ExitCode};
 
 fn run(args: &[String]) -> Result<(), String> {
@@ -17,7 +18,11 @@ fn run(args: &[String]) -> Result<(), String> {
             print!("{}", text::list(&Sheet::of_bytes(&bytes)));
             Ok(())
         }
-        _ => Err("usage: sheet assemble TEXT SHEET | sheet list SHEET".into()),
+        ["page", from] => {
+            print!("{}", page(&read(from)?));
+            Ok(())
+        }
+        _ => Err("usage: sheet assemble TEXT SHEET | sheet list SHEET | sheet page SHEET".into()),
     }
 }
 
