@@ -17,7 +17,7 @@ fn next_page() {
 }
 
 fn main() {
-    let mut i = 0;
+    let mut i = 0u32;
     while i < 7 {
         next_page();
         i += 1;

@@ -1,0 +1,35 @@
+-- `answerbook_test::main` meets its contract. Assumes nothing.
+use borrow.Author.Needs.{needs}
+use Prim.Native.Nat.{_-_, _≤_}
+use native.Mathlib.Omega.{arith}
+use Rattle.answerbook_test.proofs.main.Statement.{statement}
+use Rattle.answerbook_test.proofs.main.Tie as tie
+
+abbrev Inv-loop : tie.InvT-loop
+Inv-loop i₀ i = i ≤ 7
+
+abbrev μ-loop : tie.MeasureT-loop
+μ-loop i₀ i = 7 - i
+
+loop-holds : tie.Need-loop-holds Inv-loop μ-loop
+loop-holds c = omega arith
+
+next-page-requires : tie.Need-next-page-requires Inv-loop μ-loop
+next-page-requires c κs = search needs
+
+add-i : tie.Need-add-i Inv-loop μ-loop
+add-i c = omega arith
+
+loop-less : tie.Need-loop-less Inv-loop μ-loop
+loop-less c = omega arith
+
+loop-again : tie.Need-loop-again Inv-loop μ-loop
+loop-again c = omega arith
+
+returns : tie.Need-returns Inv-loop μ-loop
+returns c = search needs
+
+pub main-spec : {M : Type 1} → statement M
+main-spec =
+    tie.close
+    (tie.spec Inv-loop μ-loop loop-holds next-page-requires add-i loop-less loop-again returns)
