@@ -216,6 +216,25 @@ fn edges() -> Vec<Vec<u8>> {
             }
         }
     }
+    // late places
+    let late = [(512 * 69 + 2, 1), (512 * 35, 1), (512 * 69 + 4, 1), (512 * 69 + 31, 9), (record_start(1_034) + 31, 1), (record_start(1_024), 255), (record_start(1_023) + 1, 1), (record_start(1_019) + 1, 1)];
+    for (at, value) in late {
+        for (sealed, early) in [(false, false), (true, false), (true, true)] {
+            let mut s = nops(1_024, "ret").bytes();
+            s[at] = value;
+            if sealed {
+                seal(&mut s);
+            }
+            if early {
+                s[record_start(0) + 28] = 1; // a Nop's payload
+                seal(&mut s);
+            }
+            all.push(s);
+        }
+    }
+    for last in ["ret t2", "jump L1", "label L1\nlabel L1\nret", "label L1\nbranch L1 L7 on t0"] {
+        all.push(nops(1_025 - last.lines().count(), last).bytes());
+    }
     // order of the checks, and their places
     let head = "locals 2 user 2 parameters 0 references t1\n";
     for t in [
@@ -299,6 +318,27 @@ fn make(oracle: Child) -> Vec<Case> {
         }
         m.dying(&a, &b);
         m.dying(&b, &a);
+    }
+    // 12 and 13 at their edges, in either graph
+    let fine = Owned::new(2, &[0], &[[0, 1, 0]]);
+    let long = |count: u32, spoilt: bool| {
+        let mut triples: Vec<[u32; 3]> = (0..count).map(|i| [i / 8, i / 8, i]).collect();
+        if spoilt {
+            triples[count as usize - 1][2] = triples[count as usize - 2][2];
+        }
+        Owned::new(64, &[63], &triples)
+    };
+    let mut edges = vec![long(255, true), long(256, false), long(256, true), long(257, false)];
+    edges.extend([64, 65, 66, u32::MAX].map(|nodes| Owned { nodes, ..fine.clone() }));
+    edges.extend([1, 2, 3, 63, 64].map(|nodes| Owned { nodes, live: 1 << (nodes - 1), triples: vec![] }));
+    edges.extend([0, 1, 2, 3, 63].map(|nodes| Owned { nodes, live: 1 << nodes, triples: vec![] }));
+    edges.extend([1, 2, 4, 5, 769, 770, 772].map(|len| Owned { nodes: 2, live: 0, triples: vec![9; len] }));
+    edges.extend([[0, 2, 0], [2, 0, 0], [u32::MAX, 0, 0], [0, u32::MAX, 0]].map(|t| Owned::new(2, &[], &[t])));
+    edges.extend([[0, 1, 0], [0, 0, 9], [0, 1, 1], [1, 0, 0]].map(|t| Owned::new(2, &[], &[[0, 1, 0], t])));
+    for g in &edges {
+        m.graphs(g, &fine);
+        m.dying(&fine, g);
+        m.dying(g, g);
     }
     for i in 0..240 {
         let (mut a, mut b) = graph::pair(&mut rng, i % 3 == 0);

@@ -2,7 +2,7 @@
 //! (rust/src/plain.rs) where the original says nothing. COUNT is how many random sheets for each SEED (2,000); a SEED is a number, or `fresh`
 //! for one from the clock; without any they are 1 and fresh.
 //!
-//! a: every sheet of up to five instructions over small alphabets. b: random sheets, and sheets moved to the edges of 10 and 11.
+//! a: every sheet of up to five instructions over small alphabets, up to six where COUNT is 20,000 or more. b: random sheets, and sheets moved to the edges of 10 and 11.
 //! c: damaged copies. d: graphs without and with cycles, broken ones. e: every call with lent output exact, short, empty and long, between
 //! guards. The smallest sheet or graph with a difference is made smaller and printed with both answers; the status is then 1.
 use sorzibelu::{
@@ -476,12 +476,14 @@ fn met(part: &Part) -> String {
     part.met.iter().map(|(number, times)| format!(" {number}: {times}")).collect::<Vec<_>>().join(",")
 }
 
-/// a, once: it has no seed.
-fn small_sheets(run: &mut Run) {
+/// a, once: it has no seed. `more` instructions than in a short run.
+fn small_sheets(run: &mut Run, more: usize) {
     let mut a = Part::default();
     let start = Instant::now();
-    for (alphabet, n) in [(WIDE, 1), (WIDE, 2), (WIDE, 3), (MIDDLE, 4), (NARROW, 5)] {
-        every(alphabet, n, |sheets| run.sheets(&mut a, sheets));
+    for (alphabet, lengths) in [(WIDE, 1..=3 + more), (MIDDLE, 4..=4 + more), (NARROW, 5..=5 + more)] {
+        for n in lengths {
+            every(alphabet, n, |sheets| run.sheets(&mut a, sheets));
+        }
     }
     println!(
         "a  every small sheet: {} sheets, {} accepted, {} questions to the original; refused{}; {} differences ({} s)",
@@ -567,7 +569,7 @@ fn random_ones(run: &mut Run, count: usize, seed: u64) -> bool {
 
 fn compare(oracle: Child, count: usize, seeds: &[u64]) -> bool {
     let mut run = Run { oracle, turn: 0, rooms: [0; 4], unfinished: 0, smallest_sheet: None, smallest_graphs: None };
-    small_sheets(&mut run);
+    small_sheets(&mut run, usize::from(count >= 20_000));
     let mut fine = true;
     for seed in seeds {
         fine &= random_ones(&mut run, count, *seed);
