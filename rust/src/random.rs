@@ -45,7 +45,7 @@ pub fn sheet(rng: &mut Rng, shape: Shape) -> Sheet {
     let mut numbers: Vec<u16> = (0..labels).map(|i| (i * step + if rng.chance(20) { 60_000 } else { 0 }) as u16).collect();
     numbers.sort_unstable();
     numbers.dedup();
-    if rng.chance(12) {
+    if step % 12 == 5 {
         let up = 65_535 - numbers.last().copied().unwrap_or(0);
         numbers.iter_mut().for_each(|l| *l += up);
     }

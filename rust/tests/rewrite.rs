@@ -114,6 +114,22 @@ fn edges_of_9_10_and_11() {
     assert_eq!(rewritten(&s, MAX_BYTES), Ok(s.clone()));
 }
 
+/// The sheets of docs/DIFFERENCES.md, where the Rust of diem/move would wrap a number or go on past 1,024 instructions.
+#[test]
+fn smallest_sheets_for_10_and_11() {
+    let ten = "locals 1 user 0 parameters 0 references t0\nlabel L1\nbranch L1 L65535 on t0\nlabel L65535\nret\n";
+    assert_eq!(rewritten(&text::assemble(ten).unwrap().bytes(), MAX_BYTES), Err((10, 0)));
+    let eight = |from: u8| (from..from + 8).map(|i| format!(" t{i}")).collect::<String>();
+    let block = |label: &str, from: u8| format!("label {label}\nprop Assert{}\nprop Assert{}\nprop Assert{}\nret{}\n", eight(from), eight(from + 8), eight(from + 16), eight(from + 24));
+    let eleven = |branches: usize| {
+        let refs = eight(0) + &(1..8).map(|i| eight(8 * i)).collect::<String>();
+        let t = format!("locals 64 user 0 parameters 0 references{refs}\n{}{}{}", "branch L1 L2 on t0\n".repeat(branches), block("L1", 0), block("L2", 32));
+        rewritten(&text::assemble(&t).unwrap().bytes(), MAX_BYTES).map(|s| u16::from_le_bytes([s[4], s[5]]))
+    };
+    assert_eq!(eleven(14), Ok(14 + 10 + 14 * 68));
+    assert_eq!(eleven(15), Err((11, 0)));
+}
+
 #[test]
 fn random_sheets() {
     let mut rng = Rng::new(6);

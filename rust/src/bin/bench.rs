@@ -1,5 +1,5 @@
 //! `bench [ORACLE]`: times the proved calls beside plain Rust on the same sheets and graphs, in one run; with an oracle, beside the original Rust as well.
-use sorzibelu::{check, conditional, dying, flow, in_use, live, oracle::*, plain, random, random::Rng, sheet::*, Graph};
+use sorzibelu::{check, conditional, dying, flow, in_use, live, oracle::*, plain, random, random::Rng, rewrite, sheet::*, Graph};
 use std::{hint::black_box, time::Instant};
 
 /// The best of 15 rounds, in nanoseconds a call.
@@ -76,6 +76,7 @@ fn main() {
     println!("{:<44} {:>9} {:>9} {:>7}", "up to 1,024 instructions, 70 blocks", "proved us", "plain us", "ratio");
     let mut table = vec![0u16; 6 * 1024];
     let mut sets = vec![0u8; 16 * 1024];
+    let mut new = vec![0u8; MAX_BYTES];
     for (name, sheet) in &sheets {
         let s = sheet.bytes();
         let taken = live(&s, &mut sets).unwrap();
@@ -93,6 +94,15 @@ fn main() {
             &format!("live, {name} (taken {taken})"),
             time(|| { let _ = black_box(live(black_box(&s), &mut sets)); }),
             time(|| { black_box(small(black_box(&s), &mut sets)); }),
+        );
+        let end = match rewrite(&s, &mut new) {
+            Ok(_) => format!("{} instructions", u16::from_le_bytes([new[4], new[5]])),
+            Err(r) => format!("refused {}", r.number),
+        };
+        row(
+            &format!("rewrite, {name} ({end})"),
+            time(|| { let _ = black_box(rewrite(black_box(&s), &mut new)); }),
+            time(|| { let _ = black_box(plain::rewrite(black_box(&s))); }),
         );
     }
     // graphs: 64 nodes, 256 triples, four to each of the next nodes
@@ -120,6 +130,7 @@ fn main() {
     for (name, sheet) in &sheets {
         rows.push((format!("flow, {name}"), FLOW, sheet.bytes()));
         rows.push((format!("live, {name}"), LIVE, sheet.bytes()));
+        rows.push((format!("rewrite, {name}"), REWRITE, sheet.bytes()));
     }
     let small = Sheet { locals: 1, code: vec![Instruction::new(RET)], ..Default::default() };
     rows.push(("flow of one instruction: the pipe".into(), FLOW, small.bytes()));
@@ -128,7 +139,7 @@ fn main() {
     rows.push(("dying, the same".into(), DYING, [payload(g), payload(none)].concat()));
     for (name, op, bytes) in &rows {
         let (status, _) = ask(&mut oracle, *op, bytes);
-        if status != 0 {
+        if status == 200 || status == 201 {
             println!("{name:<44} does not finish");
             continue;
         }
