@@ -288,3 +288,18 @@ fn damaged_code(rng: &mut Rng, s: &[u8]) -> Vec<u8> {
     }
     sheet.bytes()
 }
+
+/// A sheet of 1,024 instructions that keeps the work list full: a ring of flagged Calls, each a block of its own that hears of one
+/// more local at a time. It comes to more removals than 16 bits can count.
+pub fn fullest() -> Sheet {
+    let mut code = vec![Instruction { one: 1, ..Instruction::new(LABEL) }];
+    for k in 0..16 * 63u16 {
+        code.push(Instruction { sub: 28, one: 2, srcs: vec![(k % 63) as u8], abort: Some(63), ..Instruction::new(CALL) });
+    }
+    let jump = Instruction { one: 1, ..Instruction::new(JUMP) };
+    code.push(jump.clone());
+    code.push(Instruction { one: 2, ..Instruction::new(LABEL) });
+    code.push(Instruction { srcs: vec![63], ..Instruction::new(RET) });
+    code.resize(1_024, jump);
+    Sheet { locals: 64, code, ..Default::default() }
+}

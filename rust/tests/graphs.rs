@@ -23,7 +23,9 @@ fn worked_graphs() {
     // on a cycle, and in a chain of 40 doubled triples, the meanings hold
     let cycle = Owned::new(3, &[2], &[[0, 1, 0], [0, 2, 0], [1, 0, 0]]);
     assert_eq!((0..3).map(|x| in_use(cycle.graph(), x)).collect::<Vec<_>>(), [Ok(true); 3]);
-    assert_eq!(conditional(Owned::new(1, &[], &[[0, 0, 0]]).graph(), 0), Ok(false));
+    let own = Owned::new(1, &[], &[[0, 0, 0]]);
+    assert_eq!((in_use(own.graph(), 0), conditional(own.graph(), 0)), (Ok(false), Ok(false)));
+    assert_eq!(listed(&Owned::new(1, &[0], &[]), &own, 1), Ok(vec![0]));
     assert_eq!(conditional(Owned::new(1, &[], &[[0, 0, 0], [0, 0, 1]]).graph(), 0), Ok(true));
     let doubled: Vec<[u32; 3]> = (0..40).flat_map(|p| [[p, p + 1, 0], [p, p + 1, 1]]).collect();
     assert_eq!(in_use(Owned::new(41, &[], &doubled).graph(), 0), Ok(false));

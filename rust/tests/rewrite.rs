@@ -119,6 +119,10 @@ fn edges_of_9_10_and_11() {
 fn smallest_sheets_for_10_and_11() {
     let ten = "locals 1 user 0 parameters 0 references t0\nlabel L1\nbranch L1 L65535 on t0\nlabel L65535\nret\n";
     assert_eq!(rewritten(&text::assemble(ten).unwrap().bytes(), MAX_BYTES), Err((10, 0)));
+    for (attr, passes) in [(65_532, true), (65_533, false)] {
+        let ten = format!("locals 1 user 0 parameters 0 references t0\nlabel L1\nbranch L1 L2 on t0\nlabel L2\nret @{attr}\n");
+        assert_eq!(rewritten(&text::assemble(&ten).unwrap().bytes(), MAX_BYTES).is_ok(), passes);
+    }
     let eight = |from: u8| (from..from + 8).map(|i| format!(" t{i}")).collect::<String>();
     let block = |label: &str, from: u8| format!("label {label}\nprop Assert{}\nprop Assert{}\nprop Assert{}\nret{}\n", eight(from), eight(from + 8), eight(from + 16), eight(from + 24));
     let eleven = |branches: usize| {

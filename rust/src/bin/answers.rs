@@ -248,6 +248,7 @@ fn edges() -> Vec<Vec<u8>> {
     ] {
         all.push(assembled(&format!("{head}{t}\n")).bytes());
     }
+    all.push(random::fullest().bytes());
     // 10 and 11 on both sides
     for (label, attr) in [(65_534, 5), (65_535, 5), (2, 65_532), (2, 65_533), (65_534, 65_532), (65_535, 65_533)] {
         let mut s = m6.clone();

@@ -2,9 +2,10 @@
 //! (rust/src/plain.rs) where the original says nothing. COUNT is how many random sheets for each SEED (2,000); a SEED is a number, or `fresh`
 //! for one from the clock; without any they are 1 and fresh.
 //!
-//! a: every sheet of up to five instructions over small alphabets, up to six where COUNT is 20,000 or more. b: random sheets, and sheets moved to the edges of 10 and 11.
-//! c: damaged copies. d: graphs without and with cycles, broken ones. e: every call with lent output exact, short, empty and long, between
-//! guards. The smallest sheet or graph with a difference is made smaller and printed with both answers; the status is then 1.
+//! a: every sheet of up to five instructions over small alphabets, up to six where COUNT is 20,000 or more. b: random sheets, sheets moved
+//! to the edges of 10 and 11, one that keeps the work list full. c: damaged copies. d: graphs without and with cycles, broken ones.
+//! e: every call with lent output exact, short, empty and long, between guards. The smallest sheet or graph with a difference is made
+//! smaller and printed with both answers; the status is then 1.
 use sorzibelu::{
     check, conditional, dying, flow, graph, graph::Owned, in_use, lent::lend, live, oracle::*, plain, random, random::Rng, rewrite, sheet::*, text, Refusal,
 };
@@ -503,6 +504,7 @@ fn random_ones(run: &mut Run, count: usize, seed: u64) -> bool {
     let start = Instant::now();
 
     let (mut b, mut c) = (Part::default(), Part::default());
+    run.sheets(&mut b, &[random::fullest().bytes()]);
     let mut left = count;
     while left > 0 {
         let batch = left.min(50);
