@@ -1,7 +1,8 @@
 // Tests livelist's text: standard input has sheets one after the other, each behind its length in four bytes, and what livelist prints for each goes to standard output.
 // The input and what must come out are made by rust/src/bin/cases.rs: worked sheets, edges, and one sheet for each refusal.
-ghost use Prim.Native.Nat.{_≤_};
+ghost use Prim.Native.Nat.{_+_, _≤_};
 ghost use lib.ListN.{length};
+ghost use Rattle.base.specs.Sizes.{maxBytes};
 use base::MAX_BYTES;
 use libc::STDIN_FILENO;
 use libc::STDOUT_FILENO;
@@ -22,7 +23,7 @@ fn wide(x: u8) -> usize
 
 // The number in two bytes, at most what there is room for.
 fn length_in(low: u8, high: u8) -> usize
-    ensures { λ r. ⌜ r ≤ 35841 ⌝ }
+    ensures { λ r. ⌜ r ≤ maxBytes + 1 ⌝ }
 {
     let n = wide(low) + 256 * wide(high);
     if ROOM < n {
