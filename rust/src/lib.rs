@@ -1,6 +1,7 @@
 //! Sheets, live sets and dying nodes: safe calls over the proved archive (crates/c_api).
 //!
 //! Every call takes any slices at all. A refusal leaves what was lent as it was.
+pub mod masks;
 pub mod oracle;
 pub mod plain;
 pub mod random;
