@@ -167,7 +167,7 @@ pub fn check<const TABLE: bool>(s: &[u8], targets: &mut Targets) -> Result<usize
     Ok(n)
 }
 
-/// The blocks of a sheet: by offset their bounds, successors and keys; by key the block.
+/// The blocks of a sheet: by offset their bounds, successors and keys; by key the block's place.
 struct Blocks {
     count: usize,
     lower: [u16; MOST],
@@ -331,6 +331,8 @@ fn live_by<const TABLE: bool>(s: &[u8], out: &mut [u8]) -> Result<u32, Refused> 
         b.next[i][..b.nexts[i] as usize].iter().for_each(|k| put(*k, p as u16));
     }
     // the work list
+    let mut parts = [(0u16, 0u16); MOST + 2];
+    (2..nodes).for_each(|k| parts[k] = (b.lower[b.of_key[k] as usize], b.upper[b.of_key[k] as usize]));
     let mut sets = [0u64; MOST + 2];
     let mut met = [false; MOST + 2];
     let mut list = [0u16; LIST];
@@ -341,8 +343,8 @@ fn live_by<const TABLE: bool>(s: &[u8], out: &mut [u8]) -> Result<u32, Refused> 
         head += 1;
         let mut m = sets[k];
         if k > 1 {
-            let i = b.of_key[k] as usize;
-            m = rules[b.lower[i] as usize..=b.upper[i] as usize].iter().rev().fold(m, |m, r| apply(r, m));
+            let (lower, upper) = parts[k];
+            m = rules[lower as usize..upper as usize + 1].iter().rev().fold(m, |m, r| apply(r, m));
         }
         let mut receive = |p: usize| {
             let joined = sets[p] | m;
