@@ -93,6 +93,14 @@ fn chain(back: fn(usize) -> usize, source: fn(usize) -> usize) -> Sheet {
     of(code)
 }
 
+/// 511 Branches that all name the last two of 512 Labels: the longest search that check 7 can be led to.
+fn searched() -> Sheet {
+    let mut code = vec![branch(510, 511, 0); 511];
+    code.extend((0..512).map(label));
+    code.push(ret());
+    of(code)
+}
+
 /// Looped sheets of 1,024 instructions and 64 locals.
 fn families() -> Vec<(&'static str, Sheet)> {
     let (last, each, second) = (
@@ -178,6 +186,7 @@ fn main() {
         ("looped by Calls", best("Calls")),
         ("looped by Branches", best("nested")),
         ("1,024 Rets", of(vec![ret(); 1024])),
+        ("labels searched longest", searched()),
     ];
     println!("\n| Call | Proved | Masks | Ratio | Masks with a table | Ratio | Original | times faster |\n|---|---|---|---|---|---|---|---|");
     let (mut table, mut other) = (vec![0u16; 6 * 1024], vec![0u16; 6 * 1024]);
