@@ -1,5 +1,6 @@
-//! `compare ORACLE [COUNT [SEED]]`: every call beside the original Rust behind oracle/, and beside the plain reading of document 01
-//! (rust/src/plain.rs) where the original says nothing. COUNT is how many random sheets (3,000); SEED a number (1), or `fresh`.
+//! `compare ORACLE [COUNT [SEED ..]]`: every call beside the original Rust behind oracle/, and beside the plain reading of document 01
+//! (rust/src/plain.rs) where the original says nothing. COUNT is how many random sheets for each SEED (2,000); a SEED is a number, or `fresh`
+//! for one from the clock; without any they are 1 and fresh.
 //!
 //! a: every sheet of up to five instructions over small alphabets. b: random sheets, and sheets moved to the edges of 10 and 11.
 //! c: damaged copies. d: graphs without and with cycles, broken ones. e: every call with lent output exact, short, empty and long, between
@@ -475,21 +476,29 @@ fn met(part: &Part) -> String {
     part.met.iter().map(|(number, times)| format!(" {number}: {times}")).collect::<Vec<_>>().join(",")
 }
 
-fn run(oracle: Child, count: usize, seed: u64) -> bool {
-    let mut run = Run { oracle, turn: seed as usize % 251, rooms: [0; 4], unfinished: 0, smallest_sheet: None, smallest_graphs: None };
-    let mut rng = Rng::new(seed);
-    let start = Instant::now();
-    let time = || format!("{} s", start.elapsed().as_secs());
-    println!("seed {seed}, {count} random sheets");
-
+/// a, once: it has no seed.
+fn small_sheets(run: &mut Run) {
     let mut a = Part::default();
-    for (alphabet, most) in [(WIDE, 1), (WIDE, 2), (WIDE, 3), (MIDDLE, 4), (NARROW, 5)] {
-        every(alphabet, most, |sheets| run.sheets(&mut a, sheets));
+    let start = Instant::now();
+    for (alphabet, n) in [(WIDE, 1), (WIDE, 2), (WIDE, 3), (MIDDLE, 4), (NARROW, 5)] {
+        every(alphabet, n, |sheets| run.sheets(&mut a, sheets));
     }
     println!(
-        "a  every small sheet: {} sheets, {} accepted, {} questions to the original; refusals met{}; {} differences ({})",
-        a.sheets, a.accepted, a.questions, met(&a), a.differences, time()
+        "a  every small sheet: {} sheets, {} accepted, {} questions to the original; refused{}; {} differences ({} s)",
+        a.sheets,
+        a.accepted,
+        a.questions,
+        met(&a),
+        a.differences,
+        start.elapsed().as_secs()
     );
+}
+
+/// b, c and d of one seed; whether every refusal was met.
+fn random_ones(run: &mut Run, count: usize, seed: u64) -> bool {
+    let mut rng = Rng::new(seed);
+    println!("seed {seed}, {count} random sheets");
+    let start = Instant::now();
 
     let (mut b, mut c) = (Part::default(), Part::default());
     let mut left = count;
@@ -507,14 +516,11 @@ fn run(oracle: Child, count: usize, seed: u64) -> bool {
         run.sheets(&mut b, &sheets);
         run.sheets(&mut c, &damaged);
     }
-    println!(
-        "b  random sheets: {} sheets, {} questions to the original; rewritings refused{}; {} differences ({})",
-        b.sheets, b.questions, met(&b), b.differences, time()
-    );
-    println!("c  damaged sheets: {} refused, met{}; {} differences ({})", c.sheets, met(&c), c.differences, time());
+    println!("b  random sheets: {} sheets, {} questions to the original; rewriting refused{}; {} differences", b.sheets, b.questions, met(&b), b.differences);
+    println!("c  damaged sheets: {} sheets, refused{}; {} differences ({} s)", c.sheets, met(&c), c.differences, start.elapsed().as_secs());
 
-    let mut d = Part::default();
     // all graphs of three nodes and single edges, cycles and self-loops among them, each with one next
+    let start = Instant::now();
     let mut pairs = vec![];
     for edges in 0..512u32 {
         for live in 0..8 {
@@ -536,24 +542,19 @@ fn run(oracle: Child, count: usize, seed: u64) -> bool {
             pairs.push((g, next));
         }
     }
+    let (mut d, unfinished) = (Part::default(), run.unfinished);
     for some in pairs.chunks(200) {
         run.graphs(&mut d, some);
     }
     println!(
-        "d  graphs: {} pairs, {} questions to the original ({} it does not finish); refusals met{}; {} differences ({})",
-        d.sheets, d.questions, run.unfinished, met(&d), d.differences, time()
+        "d  graphs: {} pairs, {} questions to the original ({} it does not finish); refused{}; {} differences ({} s)",
+        d.sheets,
+        d.questions,
+        run.unfinished - unfinished,
+        met(&d),
+        d.differences,
+        start.elapsed().as_secs()
     );
-    let [exact, short, empty, long] = run.rooms;
-    println!("e  lent output: exact {exact}, one short {short}, empty {empty}, long {long} times, between guards");
-
-    if let Some(s) = run.smallest_sheet.take() {
-        run.print_sheet(&s);
-        return false;
-    }
-    if let Some(found) = run.smallest_graphs.take() {
-        run.print_graphs(found);
-        return false;
-    }
     let mut fine = true;
     for (part, name, numbers) in [(&b, "b", 10..12), (&c, "c", 1..9), (&d, "d", 12..15), (&d, "d", 9..10)] {
         for number in numbers.filter(|number| !part.met.contains_key(number)) {
@@ -564,25 +565,42 @@ fn run(oracle: Child, count: usize, seed: u64) -> bool {
     fine
 }
 
+fn compare(oracle: Child, count: usize, seeds: &[u64]) -> bool {
+    let mut run = Run { oracle, turn: 0, rooms: [0; 4], unfinished: 0, smallest_sheet: None, smallest_graphs: None };
+    small_sheets(&mut run);
+    let mut fine = true;
+    for seed in seeds {
+        fine &= random_ones(&mut run, count, *seed);
+    }
+    let [exact, short, empty, long] = run.rooms;
+    println!("e  lent output between guards: exact {exact}, one short {short}, empty {empty}, long {long} times");
+    if let Some(s) = run.smallest_sheet.take() {
+        run.print_sheet(&s);
+        fine = false;
+    }
+    if let Some(found) = run.smallest_graphs.take() {
+        run.print_graphs(found);
+        fine = false;
+    }
+    fine
+}
+
 fn main() -> ExitCode {
     let args: Vec<String> = env::args().skip(1).collect();
-    let fresh = || SystemTime::now().duration_since(SystemTime::UNIX_EPOCH).map_or(0, |d| d.as_nanos() as u64 % 1_000_000_000);
-    let count = args.get(1).map_or(Ok(3_000), |x| x.parse());
-    let seed = args.get(2).map_or(Ok(1), |x| if x == "fresh" { Ok(fresh()) } else { x.parse() });
-    let (1..=3, Ok(count), Ok(seed)) = (args.len(), count, seed) else {
-        eprintln!("usage: compare ORACLE [COUNT [SEED]]; COUNT is a number, SEED one or the word fresh");
+    let fresh = SystemTime::now().duration_since(SystemTime::UNIX_EPOCH).map_or(0, |d| d.as_nanos() as u64 % 1_000_000_000);
+    let count = args.get(1).map_or(Ok(2_000), |x| x.parse());
+    let seeds: Result<Vec<u64>, _> = args.iter().skip(2).map(|x| if x == "fresh" { Ok(fresh) } else { x.parse() }).collect();
+    let (Some(path), Ok(count), Ok(mut seeds)) = (args.first(), count, seeds) else {
+        eprintln!("usage: compare ORACLE [COUNT [SEED ..]]; COUNT is a number, a SEED one or the word fresh");
         return ExitCode::from(2);
     };
-    match start(&args[0]) {
-        Ok(oracle) => {
-            if run(oracle, count, seed) {
-                ExitCode::SUCCESS
-            } else {
-                ExitCode::FAILURE
-            }
-        }
+    if seeds.is_empty() {
+        seeds = vec![1, fresh];
+    }
+    match start(path) {
+        Ok(oracle) => ExitCode::from(u8::from(!compare(oracle, count, &seeds))),
         Err(e) => {
-            eprintln!("{}: {e}", args[0]);
+            eprintln!("{path}: {e}");
             ExitCode::from(2)
         }
     }
