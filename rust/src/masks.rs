@@ -6,6 +6,7 @@ use crate::sheet::{
 
 const MOST: usize = 1024;
 const STOP: u8 = 18;
+const DESTROY: u8 = 13;
 
 /// As many keys as can ever be taken: 1 + (1,024 + 1) * (64 + 1).
 pub const LIST: usize = 66_626;
@@ -306,9 +307,14 @@ fn live_by<const TABLE: bool>(s: &[u8], out: &mut [u8]) -> Result<u32, Refused> 
     if out.len() < 16 * n {
         return Err((9, 0));
     }
+    Ok(analyze(s, n, &targets, out))
+}
+
+/// The sets of an accepted sheet, and how many blocks were taken.
+fn analyze(s: &[u8], n: usize, targets: &Targets, out: &mut [u8]) -> u32 {
     let mut rules = [Rule { kills: 0, gens: 0, assign: false }; MOST];
     (0..n).for_each(|k| rules[k] = rule(record(s, k)));
-    let b = blocks(s, n, &targets);
+    let b = blocks(s, n, targets);
     // the keys before each key, ascending
     let nodes = b.count + 2;
     let mut starts = [0u16; MOST + 4];
@@ -367,12 +373,113 @@ fn live_by<const TABLE: bool>(s: &[u8], out: &mut [u8]) -> Result<u32, Refused> 
             out[16 * k..16 * k + 8].copy_from_slice(&m.to_le_bytes());
         }
     }
-    Ok(head as u32)
+    head as u32
+}
+
+/// The rewritten sheet at the front of `out`: its length.
+pub fn rewrite(s: &[u8], out: &mut [u8]) -> Result<u32, Refused> {
+    let mut targets = [[0; 2]; MOST];
+    let n = check::<false>(s, &mut targets)?;
+    if out.len() < MAX_BYTES {
+        return Err((9, 0));
+    }
+    let mut info = [0u8; 16 * MOST];
+    analyze(s, n, &targets, &mut info);
+    let refs = u64_at(s, 16);
+    let before = |k: usize| u64_at(&info, 16 * k);
+    let in_after = |k: usize, local: u8| u64_at(&info, 16 * k + 8) >> local & 1 == 1;
+    // what an edge of a Branch loses, a Load or Assign that goes, and a Call that takes the Assign behind it
+    let lost = |k: usize, j: usize| refs & u64_at(&info, 16 * k + 8) & !before(targets[k][j] as usize);
+    let dead = |k: usize, r: &[u8; RECORD]| matches!(r[0], LOAD | ASSIGN) && !in_after(k, r[12]);
+    let merges = |k: usize, r: &[u8; RECORD]| {
+        r[0] == CALL && r[8] == 1 && k + 1 < n && {
+            let a = record(s, k + 1);
+            a[0] == ASSIGN && a[20] == r[12] && !in_after(k + 1, r[12])
+        }
+    };
+    let (mut label, mut attr, mut kept, mut added, mut edges) = (0, 0, 0, 0, 0);
+    let mut k = 0;
+    while k < n {
+        let r = record(s, k);
+        if !dead(k, r) {
+            kept += 1;
+            for m in (0..names(r)).filter(|_| r[0] == BRANCH).map(|j| lost(k, j)).filter(|m| *m != 0) {
+                edges += 1;
+                added += 2 + m.count_ones() as usize;
+            }
+        }
+        k += 1 + merges(k, r) as usize;
+    }
+    for r in (0..n).map(|k| record(s, k)) {
+        attr = attr.max(u16_at(r, 2) as usize);
+        if r[0] == LABEL {
+            label = label.max(u16_at(r, 4) as usize);
+        }
+    }
+    if edges > 0 && (label + edges > 65_535 || attr + added > 65_535) {
+        return Err((10, 0));
+    }
+    if kept + added > MOST {
+        return Err((11, 0));
+    }
+    let length = BLOCK * (1 + (kept + added).div_ceil(PER_BLOCK));
+    let out = &mut out[..length];
+    out.fill(0);
+    out[4..24].copy_from_slice(&s[4..24]);
+    out[4..6].copy_from_slice(&((kept + added) as u16).to_le_bytes());
+    let (mut at, mut end) = (0, kept);
+    let mut put = |at: &mut usize, r: &[u8; RECORD]| {
+        out[record_start(*at)..record_start(*at) + RECORD].copy_from_slice(r);
+        *at += 1;
+    };
+    let mut k = 0;
+    while k < n {
+        let mut r = *record(s, k);
+        let merged = merges(k, &r);
+        if merged {
+            r[12] = record(s, k + 1)[12];
+        }
+        if r[0] == BRANCH {
+            for j in 0..2 {
+                let mut left = lost(k, j);
+                if left == 0 {
+                    continue;
+                }
+                let old = [r[4 + 2 * j], r[5 + 2 * j]];
+                label += 1;
+                r[4 + 2 * j..6 + 2 * j].copy_from_slice(&(label as u16).to_le_bytes());
+                let mut new = |kind: u8, sub: u8, one: [u8; 2], source: Option<u8>| {
+                    attr += 1;
+                    let mut x = [0; RECORD];
+                    (x[0], x[1], x[9], x[20]) = (kind, sub, source.is_some() as u8, source.unwrap_or(0));
+                    x[2..4].copy_from_slice(&(attr as u16).to_le_bytes());
+                    x[4..6].copy_from_slice(&one);
+                    put(&mut end, &x);
+                };
+                new(LABEL, 0, (label as u16).to_le_bytes(), None);
+                while left != 0 {
+                    new(CALL, DESTROY, [0; 2], Some(left.trailing_zeros() as u8));
+                    left &= left - 1;
+                }
+                new(JUMP, 0, old, None);
+            }
+        }
+        if !dead(k, &r) {
+            put(&mut at, &r);
+        }
+        k += 1 + merged as usize;
+    }
+    for (b, p) in out.chunks_exact_mut(BLOCK).enumerate() {
+        p[..2].copy_from_slice(&(b as u16).to_le_bytes());
+        let sum: u32 = p.iter().map(|x| *x as u32).sum();
+        p[2..4].copy_from_slice(&(sum as u16).to_le_bytes());
+    }
+    Ok(length as u32)
 }
 
 #[cfg(test)]
 mod tests {
-    use crate::{check, flow, live, random, random::Rng};
+    use crate::{check, flow, live, random, random::Rng, rewrite};
 
     #[test]
     fn answers_are_the_proved_ones() {
@@ -394,6 +501,9 @@ mod tests {
             assert_eq!(proved, super::live_with_table(&s, &mut c));
             assert_eq!(a, b);
             assert_eq!(a, c);
+            let (mut a, mut b) = (vec![7; 35_840], vec![7; 35_840]);
+            assert_eq!(rewrite(&s, &mut a).map_err(|f| (f.number, f.place)), super::rewrite(&s, &mut b));
+            assert_eq!(a, b);
         }
     }
 }

@@ -1,6 +1,6 @@
 //! `bench [ORACLE]`: times the proved calls beside the small program of rust/src/masks.rs on the same sheets and graphs, in one run; with an oracle, beside the original
 //! Rust as well, over a pipe whose own cost is measured in the same rounds and taken off. `bench families` only says how many blocks each looped sheet takes.
-use sorzibelu::{check, conditional, dying, flow, in_use, live, masks, oracle::*, random, random::Rng, sheet::*, Graph};
+use sorzibelu::{check, conditional, dying, flow, in_use, live, masks, oracle::*, random, random::Rng, rewrite, sheet::*, Graph};
 use std::{hint::black_box, process::Child, time::Instant};
 
 const ROUNDS: usize = 200;
@@ -99,6 +99,16 @@ fn searched() -> Sheet {
     code.extend((0..512).map(label));
     code.push(ret());
     of(code)
+}
+
+/// 684 Loads that nobody reads, and 68 times a Branch whose else edge loses eight references: 1,020 instructions when rewritten, 680 of them new.
+fn losing() -> Sheet {
+    let mut code: Vec<Instruction> = (0..684).map(|k| Instruction { dsts: vec![8 + k as u8 % 56], ..Instruction::new(LOAD) }).collect();
+    for i in 0..68 {
+        let eight = Instruction { srcs: (0..8).collect(), ..ret() };
+        code.extend([branch(2 * i, 2 * i + 1, 63), label(2 * i), eight, label(2 * i + 1), ret()]);
+    }
+    Sheet { references: 255, ..of(code) }
 }
 
 /// Looped sheets of 1,024 instructions and 64 locals.
@@ -215,6 +225,20 @@ fn main() {
             oracle.as_mut().map(|o| (o, LIVE, s)),
         );
         assert!(table == other && a == b && a == c);
+    }
+    let (mut d, mut e) = (vec![0u8; MAX_BYTES], vec![0u8; MAX_BYTES]);
+    let unlosing = Sheet { references: 0, ..sheets[1].1.clone() };
+    for (name, sheet) in [("straight", &sheets[0].1), ("300 Labels, no references", &unlosing), ("lost references", &losing())] {
+        let s = &sheet.bytes()[..];
+        let length = rewrite(s, &mut d).unwrap();
+        row(
+            &format!("rewrite, {name}, {} instructions left", Sheet::of_bytes(&d[..length as usize]).code.len()),
+            call(|| rewrite(black_box(s), &mut d)),
+            Some(call(|| masks::rewrite(black_box(s), &mut e))),
+            None,
+            oracle.as_mut().map(|o| (o, REWRITE, s)),
+        );
+        assert!(d[..length as usize] == e[..length as usize]);
     }
     // graphs: 64 nodes, 246 triples, four from each node to the next ones
     let triples: Vec<u32> = (0..64u32).flat_map(|p| (1..5).filter(move |d| p + d < 64).flat_map(move |d| [p, p + d, 0])).collect();
