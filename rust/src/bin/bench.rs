@@ -103,7 +103,7 @@ fn searched() -> Sheet {
 
 /// 684 Loads that nobody reads, and 68 times a Branch whose else edge loses eight references: 1,020 instructions when rewritten, 680 of them new.
 fn losing() -> Sheet {
-    let mut code: Vec<Instruction> = (0..684).map(|k| Instruction { dsts: vec![8 + k as u8 % 56], ..Instruction::new(LOAD) }).collect();
+    let mut code: Vec<Instruction> = (0..684).map(|k| Instruction { dsts: vec![8 + (k % 55) as u8], ..Instruction::new(LOAD) }).collect();
     for i in 0..68 {
         let eight = Instruction { srcs: (0..8).collect(), ..ret() };
         code.extend([branch(2 * i, 2 * i + 1, 63), label(2 * i), eight, label(2 * i + 1), ret()]);
