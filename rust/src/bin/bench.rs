@@ -1,5 +1,6 @@
 //! `bench [ORACLE]`: times the proved calls beside the small program of rust/src/masks.rs on the same sheets and graphs, in one run; with an oracle, beside the original
-//! Rust as well, over a pipe whose own cost is measured in the same rounds and taken off. `bench families` only says how many blocks each looped sheet takes.
+//! Rust as well, over a pipe whose own cost is measured in the same rounds and taken off. `bench families` only says how many blocks each looped sheet takes; `bench repeat SHEET` only runs
+//! live on a sheet of the table 20,000 times, for a profiler.
 use sorzibelu::{check, conditional, dying, flow, in_use, live, masks, oracle::*, random, random::Rng, rewrite, sheet::*, Graph};
 use std::{hint::black_box, process::Child, time::Instant};
 
@@ -187,7 +188,6 @@ fn main() {
     if word.as_deref() == Some("families") {
         return;
     }
-    let mut oracle = word.map(|path| start(&path).unwrap());
     let best = |of: &str| all.iter().filter(|f| f.0.starts_with(of)).max_by_key(|f| taken(&f.1)).unwrap().1.clone();
     let mut rng = Rng::new(7);
     let sheets = [
@@ -198,6 +198,13 @@ fn main() {
         ("1,024 Rets", of(vec![ret(); 1024])),
         ("labels searched longest", searched()),
     ];
+    if word.as_deref() == Some("repeat") {
+        let name = std::env::args().nth(2).unwrap_or_default();
+        let s = sheets.iter().find(|x| x.0 == name).expect("no such sheet").1.bytes();
+        (0..20_000).for_each(|_| drop(black_box(live(&s, &mut [0; 16 * 1024]))));
+        return;
+    }
+    let mut oracle = word.map(|path| start(&path).unwrap());
     println!("\n| Call | Proved | Masks | Ratio | Masks with a table | Ratio | Original | times faster |\n|---|---|---|---|---|---|---|---|");
     let (mut table, mut other) = (vec![0u16; 6 * 1024], vec![0u16; 6 * 1024]);
     let (mut a, mut b, mut c) = (vec![0u8; 16 * 1024], vec![0u8; 16 * 1024], vec![0u8; 16 * 1024]);
