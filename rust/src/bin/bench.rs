@@ -201,7 +201,9 @@ fn main() {
     if word.as_deref() == Some("repeat") {
         let name = std::env::args().nth(2).unwrap_or_default();
         let s = sheets.iter().find(|x| x.0 == name).expect("no such sheet").1.bytes();
-        (0..20_000).for_each(|_| drop(black_box(live(&s, &mut [0; 16 * 1024]))));
+        for _ in 0..20_000 {
+            let _ = black_box(live(&s, &mut [0; 16 * 1024]));
+        }
         return;
     }
     let mut oracle = word.map(|path| start(&path).unwrap());
