@@ -3,6 +3,7 @@
 //! Every call takes any slices at all. A refusal leaves what was lent as it was.
 pub mod graph;
 pub mod lent;
+pub mod masks;
 pub mod oracle;
 pub mod plain;
 pub mod random;
