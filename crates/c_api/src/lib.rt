@@ -2,7 +2,7 @@
 ghost use mathlib.Core.Path.{_≡_};
 ghost use Rattle.base.specs.Refusals.{refusedResult, resultOf};
 ghost use Rattle.c_api.specs.Packed.{packed, checkReply};
-ghost use lib.ListN.{length};
+ghost use lib.ListN.{length, take};
 ghost use Rattle.base.specs.Refusals.{left};
 ghost use Rattle.borrow_analysis.specs.Graph.{given};
 ghost use Rattle.borrow_analysis.specs.Borrows.{inUseReply, conditionalReply, dyingReply};
@@ -11,11 +11,16 @@ ghost use Rattle.stackless_control_flow_graph.specs.Blocks.{flowReply};
 ghost use Rattle.stackless_control_flow_graph.specs.Flow.{resultIs};
 ghost use Rattle.livevar_analysis.specs.Analysis.{liveReply};
 ghost use Rattle.livevar_analysis.specs.LiveCall.{liveResult, LeastLive};
+ghost use Rattle.livevar_transform.specs.Rewrite.{rewriteReply};
+ghost use Rattle.livevar_transform.specs.RewriteAccepted.{Again};
+ghost use Rattle.livevar_transform.specs.RewriteWork.{rewriteResult};
 use base::Refusal;
 use borrow_analysis::answers::Asked;
 use borrow_analysis::answers::Dying;
 use livevar_analysis::Live;
 use livevar_analysis::analysis::live;
+use livevar_transform::rewrite::Rewritten;
+use livevar_transform::rewrite::rewrite;
 use sheet::Checked;
 use sheet::check::check;
 use stackless_control_flow_graph::Flow;
@@ -117,6 +122,15 @@ fn taken(l: Live) -> u64
     }
 }
 
+fn long(w: Rewritten) -> u64
+    ensures { λ r. ⌜ r ≡ packed (rewriteResult w) ⌝ }
+{
+    match w {
+        Rewritten::Length(n) => n as u64,
+        Rewritten::Refused(f) => refused(f),
+    }
+}
+
 // How many blocks, and six numbers for each at the front of `table`.
 #[no_mangle]
 pub extern "C" fn sorzibelu_flow(sheet: &[u8], table: &mut [u16]) -> u64
@@ -134,4 +148,14 @@ pub extern "C" fn sorzibelu_live(sheet: &[u8], sets: &mut [u8]) -> u64
     ensures { λ _. ⌜ (resultOf (liveReply (now (sheet .entry)) (length (now (sets .entry)))) .number ≡ 0 → LeastLive (now (sheet .entry)) (now (sets .exit))) ⌝ }
 {
     taken(live(sheet, sets))
+}
+
+// How many bytes the rewritten sheet has, and the sheet at the front of `out`.
+#[no_mangle]
+pub extern "C" fn sorzibelu_rewrite(sheet: &[u8], out: &mut [u8]) -> u64
+    ensures { λ r. ⌜ r ≡ packed (resultOf (rewriteReply (now (sheet .entry)) (length (now (out .entry))))) ⌝ }
+    ensures { λ _. ⌜ now (out .exit) ≡ left (rewriteReply (now (sheet .entry)) (length (now (out .entry)))) (now (out .entry)) ⌝ }
+    ensures { λ _. ⌜ (resultOf (rewriteReply (now (sheet .entry)) (length (now (out .entry)))) .number ≡ 0 → Again (now (sheet .entry)) (take (resultOf (rewriteReply (now (sheet .entry)) (length (now (out .entry)))) .value) (now (out .exit)))) ⌝ }
+{
+    long(rewrite(sheet, out))
 }

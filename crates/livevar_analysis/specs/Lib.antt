@@ -1,13 +1,9 @@
 pub mod Live
 pub mod Analysis
-pub mod Rewrite
 pub mod LiveLaws
 pub mod RuleLaws
 pub mod AnalysisLaws
 pub mod Term3
-pub mod RewriteLaws
-pub mod RewriteAccepted
-pub mod Walk
 pub mod Rules
 pub mod Engine
 pub mod DecodeLaws

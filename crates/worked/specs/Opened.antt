@@ -12,7 +12,7 @@ use Rattle.stackless_control_flow_graph.specs.Blocks.{targets, starts, lowers, 
 use Rattle.stackless_control_flow_graph.specs.Backward.{nextsOf, times, predsFrom, leadsTo}
 use Rattle.livevar_analysis.specs.Live.{assigned, called, execute}
 use Rattle.livevar_analysis.specs.Analysis.{executeAll, restOf, outOf, analyzeFunction, infoOf, analyze, liveBytes, liveReply}
-use Rattle.livevar_analysis.specs.Rewrite.{destroys, destroyBlock, blockSize, isDead, isMerged, isDropped, targetOf, highest, nextFreeLabel, nextFreeAttr, lostRefs, isLosing, labelFor, attrFor, goesTo, standsFor, keptCode, blockOn, addedCode, transformCode, rewritten, writtenReply, rewriteReply}
+use Rattle.livevar_transform.specs.Rewrite.{destroys, destroyBlock, blockSize, isDead, isMerged, isDropped, targetOf, highest, nextFreeLabel, nextFreeAttr, lostRefs, isLosing, labelFor, attrFor, goesTo, standsFor, keptCode, blockOn, addedCode, transformCode, rewritten, writtenReply, rewriteReply}
 use Rattle.borrow_analysis.specs.Graph.{graphOf, nodesOk, rank, tripleOk, triplesBad, moved, checkAsked, checkGraphs}
 use Rattle.borrow_analysis.specs.Borrows.{parentsIn, upward, above, isInUse, incoming, manyIn, isConditional, getParents, collectAncestors, dyingNodes, inUseReply, conditionalReply, dyingReply}
 use Rattle.listing.specs.Lines.{hexDigit, hex, decimalIn, decimal, line, lines, printed, livelist}

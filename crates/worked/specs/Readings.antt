@@ -12,7 +12,7 @@ use Rattle.sheet.specs.Layout.{sheetOf}
 use Rattle.sheet.specs.Checks.{checkSheet}
 use Rattle.stackless_control_flow_graph.specs.Blocks.{flowTable, flowReply}
 use Rattle.livevar_analysis.specs.Analysis.{analyze, liveReply}
-use Rattle.livevar_analysis.specs.Rewrite.{transformCode, rewriteReply}
+use Rattle.livevar_transform.specs.Rewrite.{transformCode, rewriteReply}
 use Rattle.borrow_analysis.specs.Borrows.{inUseReply, conditionalReply, dyingReply}
 use Rattle.worked.specs.Samples.{headingOf, plain, flagged, m1, assign, call, ret, load, branch, jump, label, abort, Not, ReadRef}
 use Rattle.worked.specs.Opened.{opened}

@@ -10,7 +10,7 @@ use Rattle.sheet.specs.Layout.{codeOf, localsOf}
 use Rattle.sheet.specs.Checks.{checkSheet}
 use Rattle.stackless_control_flow_graph.specs.Blocks.{flowReply}
 use Rattle.livevar_analysis.specs.Analysis.{LiveVarInfo, Analyzed, analyze}
-use Rattle.livevar_analysis.specs.Rewrite.{rewriteReply}
+use Rattle.livevar_transform.specs.Rewrite.{rewriteReply}
 use Rattle.borrow_analysis.specs.Borrows.{dyingReply}
 use Rattle.listing.specs.Lines.{livelist}
 use Rattle.worked.specs.Samples.{m1, m2, m3, m4, m5, m6, m2Text, m4New, m5New, m6New, chain}

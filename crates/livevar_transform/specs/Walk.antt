@@ -17,11 +17,11 @@ use Rattle.base.specs.Sizes.{maxLocals}
 use Rattle.base.specs.Lists.{keep, count, total, joins}
 use Rattle.stackless_bytecode.specs.Kinds.{nop, at}
 use Rattle.stackless_bytecode.specs.Successors.{labelOffset}
 use Rattle.livevar_analysis.specs.Analysis.{LiveVarInfo}
-use Rattle.livevar_analysis.specs.Rewrite.{aimed, into, destroyBlock, blockSize, infoAt, isDead, isMerged, isDropped, targetOf, nextFreeLabel, nextFreeAttr, lostRefs, isLosing, labelFor, attrFor, goesTo, standsFor, keptCode, blockOn, addedCode, transformCode}
+use Rattle.livevar_transform.specs.Rewrite.{aimed, into, destroyBlock, blockSize, infoAt, isDead, isMerged, isDropped, targetOf, nextFreeLabel, nextFreeAttr, lostRefs, isLosing, labelFor, attrFor, goesTo, standsFor, keptCode, blockOn, addedCode, transformCode}
 use Rattle.base.specs.ListLaws.{by-test, by-eq}
 use Rattle.base.specs.JoinLaws.{count-in, count-out}
-use Rattle.livevar_analysis.specs.RewriteLaws.{is-dead, is-merged, some-losing, by-stands, edge-target, edge-target-else}
+use Rattle.livevar_transform.specs.RewriteLaws.{is-dead, is-merged, some-losing, by-stands, edge-target, edge-target-else}
 
 -- ---- the walk
 

@@ -8,15 +8,14 @@ use lib.Dec.{eqb, ltb}
 use lib.ListN.{getD, length}
 use Rattle.base.specs.Sizes.{maxLocals, maxInstructions, maxBytes, maxNumber}
 use Rattle.base.specs.Lists.{keep, count, total, joins, gather}
-use Rattle.base.specs.Bytes.{part}
 use Rattle.base.specs.Refusals.{Reply, No, Done, reply}
 use Rattle.dataflow_domains.specs.Mask.{holds, minus}
 use Rattle.stackless_bytecode.specs.declared.Bytecode.{Bytecode}
-use Rattle.stackless_bytecode.specs.Kinds.{Assign, Call, Load, Branch, Jump, Label, Destroy, at, isExit, labelOf}
+use Rattle.stackless_bytecode.specs.Kinds.{Assign, Call, Load, Branch, Jump, Label, Destroy, at, labelOf}
 use Rattle.stackless_bytecode.specs.Successors.{labelOffset}
-use Rattle.sheet.specs.Layout.{padded, localsOf, refsOf, codeOf, sheetOf}
+use Rattle.sheet.specs.Layout.{headingRest, padded, localsOf, refsOf, codeOf, sheetOf}
 use Rattle.sheet.specs.Checks.{checkSheet}
-use Rattle.livevar_analysis.specs.Analysis.{LiveVarInfo, noInfo, Analyzed, analyze}
+use Rattle.livevar_analysis.specs.Analysis.{LiveVarInfo, noInfo, analyze}
 
 -- ---- new instructions
 
@@ -190,7 +189,7 @@ rewritten s =
     let new = transformCode code info refs in
     let edges = 2 * length code in
     cond (ltb 0 (length (addedCode code info refs)) && (ltb (suc maxNumber) (labelFor code info refs edges) || ltb (suc maxNumber) (attrFor code info refs edges))) NoNumber
-    (cond (ltb maxInstructions (length new)) TooLong (Sheet (sheetOf (part s 6 506) new)))
+    (cond (ltb maxInstructions (length new)) TooLong (Sheet (sheetOf (headingRest s) new)))
 
 unfoldable pub writtenReply : Written → Reply
 writtenReply (Written.Sheet t) = Done (length t) t

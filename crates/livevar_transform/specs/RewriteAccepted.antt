@@ -12,16 +12,16 @@ use Rattle.stackless_bytecode.specs.declared.Bytecode.{Bytecode}
 use Rattle.base.specs.Sizes.{maxLocals}
 use Rattle.base.specs.Refusals.{Accepted}
 use Rattle.base.specs.Lists.{all, zeros}
-use Rattle.base.specs.Bytes.{part}
-use Rattle.sheet.specs.Layout.{userLocalsOf, parametersOf, localsOf, refsOf, codeOf, padded, sheetOf}
+use Rattle.sheet.specs.Layout.{headingRest, userLocalsOf, parametersOf, localsOf, refsOf, codeOf, padded, sheetOf}
 use Rattle.stackless_bytecode.specs.Kinds.{dstsOf, srcsOf, nop, at, isFlagged}
 use Rattle.livevar_analysis.specs.Analysis.{LiveVarInfo, analyze}
 use Rattle.sheet.specs.declared.Shape.{Shape}
 use Rattle.sheet.specs.Checks.{shapes, noShape, fits, recordOk, localsOk, checkSheet}
-use Rattle.livevar_analysis.specs.Rewrite.{made, aimed, into, blockSize, targetOf, lostRefs, isLosing, labelFor, attrFor, goesTo, standsFor, addedCode, transformCode, Written, rewritten}
+use Rattle.sheet.specs.Valid.{accepted-valid}
+use Rattle.livevar_transform.specs.Rewrite.{made, aimed, into, blockSize, targetOf, lostRefs, isLosing, labelFor, attrFor, goesTo, standsFor, addedCode, transformCode, Written, rewritten}
 use Rattle.base.specs.ListLaws.{or-false, by-test, getD-in, in-getD, and-true}
 use Rattle.base.specs.JoinLaws.{by-lt, total-le, count-lt}
-use Rattle.livevar_analysis.specs.RewriteLaws.{Part, Merged, is-merged, merged-inside, Where, where-is, new-length, new-kept, added-part, pos-inside, by-stands, losing-some, some-losing, losing-branch, in-lost, last-kept, size-is, size-some, new-sound, new-unique, added-length}
+use Rattle.livevar_transform.specs.RewriteLaws.{Part, Merged, is-merged, merged-inside, Where, where-is, new-length, new-kept, added-part, pos-inside, by-stands, losing-some, some-losing, losing-branch, in-lost, last-kept, size-is, size-some, new-sound, new-unique, added-length}
 use Rattle.dataflow_domains.specs.MaskLaws.{bit-above}
 use Rattle.sheet.specs.AcceptedLaws.{accepted-body, assign-fits, local-lt, Bytes, small-by, by-small, heading}
 use Rattle.sheet.specs.EncodeLaws.{Small, Encodes, eight-size, small-nil, small-cons, small-append, small-take, small-drop, small-zeros, sheet-small}
@@ -230,7 +230,7 @@ sheetNew s = transformCode (codeOf s) (sheetInfo s) (refsOf s)
 -- where rewriting is not refused: there is room, and it gives the new code under the old heading
 pub record Given (s t : List ℕ) : Type 0 where
   pub room : Room (codeOf s) (sheetInfo s) (refsOf s)
-  pub is : t ≡ sheetOf (part s 6 506) (sheetNew s)
+  pub is : t ≡ sheetOf (headingRest s) (sheetNew s)
 
 by-cond : {A : Type 0} (P : Type 0) (b : Bool) (x y z : A) → cond b x y ≡ z → (b ≡ true → x ≡ z → P) → (b ≡ false → y ≡ z → P) → P
 by-cond P true x y z e t f = t refl e
@@ -264,11 +264,12 @@ given s t e =
     attrs : ltb 65536 l || ltb 65536 a ≡ false → a ≤ 65536
     attrs q = ltb-false 65536 a (or-false (ltb 65536 l) (ltb 65536 a) q .1)
 
--- a rewritten sheet is a list of bytes and accepted, its code is the new code, and the heading's other fields are as they were
+-- a rewritten sheet is a list of bytes and accepted, its code is the new code and has an instruction, and the heading's other fields are as they were
 pub record Again (s t : List ℕ) : Type 0 where
   pub bytes : Bytes t
   pub accepted : checkSheet t ≡ Accepted
   pub code : codeOf t ≡ sheetNew s
+  pub some : 1 ≤ length (codeOf t)
   pub locals : localsOf t ≡ localsOf s
   pub users : userLocalsOf t ≡ userLocalsOf s
   pub params : parametersOf t ≡ parametersOf s
@@ -278,10 +279,12 @@ pub rewritten-accepted : (s t : List ℕ) → Bytes s → checkSheet s ≡ Accep
 rewritten-accepted s t bytes e r =
     let g = given s t r in
     let b = new-body (localsOf s) (refsOf s) (codeOf s) (sheetInfo s) (accepted-body s bytes e) (heading s bytes e .refs) (heading s bytes e .locals) (g .room) in
+    let again : checkSheet (sheetOf (headingRest s) (sheetNew s)) ≡ Accepted = accepted-again s e (sheetNew s) b in
     subst (Again s) (sym (g .is)) (record {
-      bytes = by-small _ (sheet-small (part s 6 506) (sheetNew s) (small-take 506 (drop 6 s) (small-drop 6 s (small-by s (λ i h. bytes .each i)))) (λ r i. let p = in-getD (sheetNew s) r nop i in subst Encodes (p .2) (b .encodes (p .0) (p .1))));
-      accepted = accepted-again s e (sheetNew s) b;
+      bytes = by-small _ (sheet-small (headingRest s) (sheetNew s) (small-take 506 (drop 6 s) (small-drop 6 s (small-by s (λ i h. bytes .each i)))) (λ r i. let p = in-getD (sheetNew s) r nop i in subst Encodes (p .2) (b .encodes (p .0) (p .1))));
+      accepted = again;
       code = same-code s e (sheetNew s) b;
+      some = omega (arith, accepted-valid _ again .count, accepted-valid _ again .some);
       locals = same-locals s e (sheetNew s) b;
       users = same-users s e (sheetNew s) b;
       params = same-params s e (sheetNew s) b;

@@ -18,8 +18,8 @@ use Rattle.base.specs.Sizes.{maxLocals}
 use Rattle.base.specs.Lists.{keep, count, total, joins, gather, has}
 use Rattle.stackless_bytecode.specs.Kinds.{nop, at, isExit, isFlagged, isJump, fallsThrough, branchDests, labelOf}
 use Rattle.stackless_bytecode.specs.Successors.{labelOffset}
 use Rattle.livevar_analysis.specs.Analysis.{LiveVarInfo}
-use Rattle.livevar_analysis.specs.Rewrite.{made, aimed, into, destroys, destroyBlock, blockSize, infoAt, isDead, isMerged, isDropped, targetOf, highest, nextFreeLabel, lostRefs, isLosing, labelFor, attrFor, goesTo, standsFor, keptCode, blockOn, addedCode, transformCode}
+use Rattle.livevar_transform.specs.Rewrite.{made, aimed, into, destroys, destroyBlock, blockSize, infoAt, isDead, isMerged, isDropped, targetOf, highest, nextFreeLabel, lostRefs, isLosing, labelFor, attrFor, goesTo, standsFor, keptCode, blockOn, addedCode, transformCode}
 use Rattle.base.specs.ListLaws.{by-test, by-eq, in-keep, gather-in, getD-in, and-true}
 use Rattle.base.specs.JoinLaws.{by-lt, getD-behind, joins-length, total-same, total-le, joins-at, Found, find, count-total, count-in, count-out, count-mono, count-lt, count-one}
 use Rattle.stackless_bytecode.specs.KindLaws.{assign-falls, load-falls, assign-names, load-names, branch-names, jump-falls, label-kind}

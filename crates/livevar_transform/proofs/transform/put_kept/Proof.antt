@@ -1,0 +1,50 @@
+-- `livevar_transform::transform::put_kept` meets its contract. Assumes nothing.
+use mathlib.Core.Path.{sym, ap, _∙_}
+use Rattle.livevar_transform.specs.NewCodeLaws.{kept-in, kept-out, placed, placed-one, placed-none}
+use lib.ListN.{length}
+use mathlib.Core.List.{List}
+use Rattle.stackless_bytecode.specs.declared.Bytecode.{Bytecode}
+use borrow.Author.Needs.{needs}
+use Rattle.livevar_transform.proofs.transform.put_kept.Statement.{statement}
+use Rattle.livevar_transform.proofs.transform.put_kept.Tie as tie
+
+is-dropped-requires : tie.Need-is-dropped-requires
+is-dropped-requires c κs = search needs
+
+returns : tie.Need-returns
+returns c = let e = sym (kept-out _ _ _ _ (sym (c .before .is-dropped .ensures) ∙ c .if1 .taken)) in (ap length e, search needs, placed-none _ ∙ ap (λ (x : List Bytecode). placed x (c .before .before .before .before .before .before .args .out .now)) e)
+
+stands-for-requires : tie.Need-stands-for-requires
+stands-for-requires c κs = search needs
+
+sub-encode : tie.Need-sub-encode
+sub-encode c = search needs
+
+part-encode-start : tie.Need-part-encode-start
+part-encode-start c = search needs
+
+part-encode-end : tie.Need-part-encode-end
+part-encode-end c = search needs
+
+encode-requires : tie.Need-encode-requires
+encode-requires c κs = search needs
+
+same-length : tie.Need-same-length
+same-length c = search needs
+
+returns-2 : tie.Need-returns-2
+returns-2 c = let e = sym (kept-in _ _ _ _ _ (sym (c .before .before .before .before .before .before .is-dropped .ensures) ∙ c .before .before .before .before .before .if1 .left) (c .before .before .before .before .stands-for .ensures)) in (ap length e, search needs, placed-one _ (c .before .before .before .before .before .before .before .before .before .before .before .args .out .now) _ (c .before .before .encode .ensures) ∙ ap (λ (x : List Bytecode). placed x (c .before .before .before .before .before .before .before .before .before .before .before .args .out .now)) e)
+
+pub put-kept-spec : {M : Type 1} → statement M
+put-kept-spec =
+    tie.close
+    (tie.spec
+    is-dropped-requires
+    returns
+    stands-for-requires
+    sub-encode
+    part-encode-start
+    part-encode-end
+    encode-requires
+    same-length
+    returns-2)

@@ -1,0 +1,11 @@
+pub mod Rewrite
+pub mod RewriteLaws
+pub mod RewriteAccepted
+pub mod Walk
+pub mod TransformLaws
+pub mod NewCodeLaws
+pub mod NewSheetLaws
+pub mod RewriteWork
+pub mod RewriteCallLaws
+pub mod WholeLaws
+pub mod Unchanged
