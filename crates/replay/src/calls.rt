@@ -8,6 +8,7 @@ ghost use Rattle.borrow_analysis.specs.Graph.{given};
 ghost use Rattle.borrow_analysis.specs.Borrows.{inUseReply, conditionalReply, dyingReply};
 ghost use Rattle.stackless_control_flow_graph.specs.Blocks.{flowReply};
 ghost use Rattle.livevar_analysis.specs.Analysis.{liveReply};
+ghost use Rattle.livevar_transform.specs.Rewrite.{rewriteReply};
 ghost use Rattle.replay.specs.Agree.{Answers, Agrees, AgreesPairs, over, pairs};
 use crate::packed::FILL;
 use crate::packed::ROOM;
@@ -17,6 +18,7 @@ use c_api::sorzibelu_dying;
 use c_api::sorzibelu_flow;
 use c_api::sorzibelu_in_use;
 use c_api::sorzibelu_live;
+use c_api::sorzibelu_rewrite;
 use check::same;
 use sheet::reader::u32_at;
 
@@ -98,6 +100,17 @@ fn live_agrees(sheet: &[u8], lent: usize, result: u64, want: &[u8], out: &mut [u
     ensures { λ r. ⌜ (r ≡ true → Agrees (liveReply (now (sheet .entry)) lent) lent result (now (out .entry)) (now (want .entry))) ⌝ }
 {
     let r = sorzibelu_live(sheet, &mut out[..lent]);
+    if r != result {
+        return false;
+    }
+    same(out, want)
+}
+
+fn rewrite_agrees(sheet: &[u8], lent: usize, result: u64, want: &[u8], out: &mut [u8]) -> bool
+    requires { ⌜ lent ≤ length (now out) ⌝ }
+    ensures { λ r. ⌜ (r ≡ true → Agrees (rewriteReply (now (sheet .entry)) lent) lent result (now (out .entry)) (now (want .entry))) ⌝ }
+{
+    let r = sorzibelu_rewrite(sheet, &mut out[..lent]);
     if r != result {
         return false;
     }
@@ -196,6 +209,14 @@ fn ask_live(sheet: &[u8], lent: usize, result: u64, want: &[u8]) -> Came {
     compared(live_agrees(sheet, lent, result, want, &mut out))
 }
 
+fn ask_rewrite(sheet: &[u8], lent: usize, result: u64, want: &[u8]) -> Came {
+    if lent > ROOM {
+        return Came::Damaged;
+    }
+    let mut out = [FILL; ROOM];
+    compared(rewrite_agrees(sheet, lent, result, want, &mut out))
+}
+
 // In use, or conditional, of the node in four bytes.
 fn ask_node(conditional: bool, graph: &[u8], asked: &[u8], result: u64) -> Came {
     let mut triples = [0u32; TRIPLE_NUMBERS];
@@ -258,6 +279,7 @@ pub fn ask(op: u8, input: &[u8], second: &[u8], lent: usize, result: u64, want: 
     match op {
         1 => ask_flow(input, lent, result, want),
         2 => ask_live(input, lent, result, want),
+        3 => ask_rewrite(input, lent, result, want),
         4 => ask_node(false, input, second, result),
         5 => ask_node(true, input, second, result),
         6 => ask_dying(input, second, lent, result, want),
