@@ -1,10 +1,15 @@
 -- What it means that a call answers as it is stored. Assumes nothing.
 use Prim.Native.Nat.{ℕ, _%_, _/_}
 use mathlib.Core.Path.{_≡_}
+use mathlib.Core.Bool.{Bool, true}
 use mathlib.Core.List.{List, [], _∷_, _++_}
 use lib.ListN.{length, take, drop}
 use Rattle.base.specs.Refusals.{Reply, resultOf, left}
 use Rattle.c_api.specs.Packed.{packed}
+
+-- b says whether P
+abbrev pub Says : Bool → Type 0 → Type 0
+Says b P = (b ≡ true → P) × (P → b ≡ true)
 
 -- the first `lent` elements of `out` are lent to a call: what `out` holds once it has replied, the rest as it was
 abbrev pub after : Reply → ℕ → List ℕ → List ℕ

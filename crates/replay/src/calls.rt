@@ -1,7 +1,6 @@
 // Each call beside a stored answer. `want` is the whole array of which the front is lent: what the call writes, and behind it the fill. Assumes nothing.
 ghost use Prim.Native.Nat.{_+_, _*_, _%_, _/_, _≤_};
 ghost use mathlib.Core.Path.{_≡_};
-ghost use mathlib.Core.Bool.{true};
 ghost use lib.ListN.{length};
 ghost use Rattle.c_api.specs.Packed.{checkReply};
 ghost use Rattle.borrow_analysis.specs.Graph.{given};
@@ -9,7 +8,7 @@ ghost use Rattle.borrow_analysis.specs.Borrows.{inUseReply, conditionalReply, d
 ghost use Rattle.stackless_control_flow_graph.specs.Blocks.{flowReply};
 ghost use Rattle.livevar_analysis.specs.Analysis.{liveReply};
 ghost use Rattle.livevar_transform.specs.Rewrite.{rewriteReply};
-ghost use Rattle.replay.specs.Agree.{Answers, Agrees, AgreesPairs, over, pairs};
+ghost use Rattle.replay.specs.Agree.{Says, Answers, Agrees, AgreesPairs, over, pairs};
 use crate::packed::FILL;
 use crate::packed::ROOM;
 use c_api::sorzibelu_check;
@@ -51,6 +50,16 @@ fn compared(agrees: bool) -> Came {
     if agrees { Came::Same } else { Came::Other }
 }
 
+// Whether a call replied with the stored result, and left what is wanted.
+fn agrees(got: u64, result: u64, out: &[u8], want: &[u8]) -> bool
+    ensures { λ r. ⌜ Says r ((got ≡ result) × (now (out .entry) ≡ now (want .entry))) ⌝ }
+{
+    if got != result {
+        return false;
+    }
+    same(out, want)
+}
+
 fn low(x: u16) -> u8
     ensures { λ r. ⌜ r ≡ x % 256 ⌝ }
 {
@@ -85,52 +94,43 @@ fn flow_agrees(
     out: &mut [u8],
 ) -> bool
     requires { ⌜ (lent ≤ length (now table)) × (2 * length (now table) ≤ length (now out)) ⌝ }
-    ensures { λ r. ⌜ (r ≡ true → AgreesPairs (flowReply (now (sheet .entry)) lent) lent result (now (table .entry)) (now (out .entry)) (now (want .entry))) ⌝ }
+    ensures { λ r. ⌜ Says r (AgreesPairs (flowReply (now (sheet .entry)) lent) lent result (now (table .entry)) (now (out .entry)) (now (want .entry))) ⌝ }
 {
     let r = sorzibelu_flow(sheet, &mut table[..lent]);
-    if r != result {
-        return false;
-    }
     bytes_of(table, out);
-    same(out, want)
+    agrees(r, result, out, want)
 }
 
 fn live_agrees(sheet: &[u8], lent: usize, result: u64, want: &[u8], out: &mut [u8]) -> bool
     requires { ⌜ lent ≤ length (now out) ⌝ }
-    ensures { λ r. ⌜ (r ≡ true → Agrees (liveReply (now (sheet .entry)) lent) lent result (now (out .entry)) (now (want .entry))) ⌝ }
+    ensures { λ r. ⌜ Says r (Agrees (liveReply (now (sheet .entry)) lent) lent result (now (out .entry)) (now (want .entry))) ⌝ }
 {
     let r = sorzibelu_live(sheet, &mut out[..lent]);
-    if r != result {
-        return false;
-    }
-    same(out, want)
+    agrees(r, result, out, want)
 }
 
 fn rewrite_agrees(sheet: &[u8], lent: usize, result: u64, want: &[u8], out: &mut [u8]) -> bool
     requires { ⌜ lent ≤ length (now out) ⌝ }
-    ensures { λ r. ⌜ (r ≡ true → Agrees (rewriteReply (now (sheet .entry)) lent) lent result (now (out .entry)) (now (want .entry))) ⌝ }
+    ensures { λ r. ⌜ Says r (Agrees (rewriteReply (now (sheet .entry)) lent) lent result (now (out .entry)) (now (want .entry))) ⌝ }
 {
     let r = sorzibelu_rewrite(sheet, &mut out[..lent]);
-    if r != result {
-        return false;
-    }
-    same(out, want)
+    agrees(r, result, out, want)
 }
 
 fn check_agrees(sheet: &[u8], result: u64) -> bool
-    ensures { λ r. ⌜ (r ≡ true → Answers (checkReply (now (sheet .entry))) result) ⌝ }
+    ensures { λ r. ⌜ Says r (Answers (checkReply (now (sheet .entry))) result) ⌝ }
 {
     sorzibelu_check(sheet) == result
 }
 
 fn in_use_agrees(nodes: u32, live: u64, triples: &[u32], node: u32, result: u64) -> bool
-    ensures { λ r. ⌜ (r ≡ true → Answers (inUseReply (given nodes live (now (triples .entry))) node) result) ⌝ }
+    ensures { λ r. ⌜ Says r (Answers (inUseReply (given nodes live (now (triples .entry))) node) result) ⌝ }
 {
     sorzibelu_in_use(nodes, live, triples, node) == result
 }
 
 fn conditional_agrees(nodes: u32, live: u64, triples: &[u32], node: u32, result: u64) -> bool
-    ensures { λ r. ⌜ (r ≡ true → Answers (conditionalReply (given nodes live (now (triples .entry))) node) result) ⌝ }
+    ensures { λ r. ⌜ Says r (Answers (conditionalReply (given nodes live (now (triples .entry))) node) result) ⌝ }
 {
     sorzibelu_conditional(nodes, live, triples, node) == result
 }
@@ -148,7 +148,7 @@ fn dying_agrees(
     out: &mut [u8],
 ) -> bool
     requires { ⌜ lent ≤ length (now out) ⌝ }
-    ensures { λ r. ⌜ (r ≡ true → Agrees (dyingReply (given nodes live (now (triples .entry))) (given «next_nodes» «next_live» (now («next_triples» .entry))) lent) lent result (now (out .entry)) (now (want .entry))) ⌝ }
+    ensures { λ r. ⌜ Says r (Agrees (dyingReply (given nodes live (now (triples .entry))) (given «next_nodes» «next_live» (now («next_triples» .entry))) lent) lent result (now (out .entry)) (now (want .entry))) ⌝ }
 {
     let r = sorzibelu_dying(
         nodes,
@@ -159,10 +159,7 @@ fn dying_agrees(
         next_triples,
         &mut out[..lent],
     );
-    if r != result {
-        return false;
-    }
-    same(out, want)
+    agrees(r, result, out, want)
 }
 
 // The list of triples behind a graph's count and mask, at the front of `out`; the result is its length, above TRIPLE_NUMBERS where these bytes are no graph.

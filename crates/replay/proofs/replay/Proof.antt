@@ -1,3 +1,4 @@
+-- `replay::replay` meets its contract: every row is inside the file. Assumes nothing.
 use Prim.Native.Nat.{_-_, _≤_}
 use mathlib.Core.Path.{_≡_}
 use lib.ListN.{length}

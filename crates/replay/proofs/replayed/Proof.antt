@@ -1,3 +1,4 @@
+-- `replay::replayed` meets its contract: each string is inside the array that it was unpacked into. Assumes nothing.
 use Rattle.replay.specs.AgreeLaws.{front-long}
 use borrow.Author.Needs.{needs}
 use Rattle.replay.proofs.replayed.Statement.{statement}

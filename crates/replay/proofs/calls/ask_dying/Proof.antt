@@ -1,3 +1,4 @@
+-- `replay::calls::ask_dying` meets its contract: each list of triples is inside the array that it was read into. Assumes nothing.
 use Rattle.replay.specs.AgreeLaws.{front-long}
 use borrow.Author.Needs.{needs}
 use Rattle.replay.proofs.calls.ask_dying.Statement.{statement}

@@ -1,3 +1,4 @@
+-- `replay::calls::ask_node` meets its contract: the list of triples is inside the array that it was read into. Assumes nothing.
 use Rattle.replay.specs.AgreeLaws.{front-long}
 use borrow.Author.Needs.{needs}
 use Rattle.replay.proofs.calls.ask_node.Statement.{statement}

@@ -1,3 +1,4 @@
+-- `replay::calls::bytes_of` meets its contract. The loop's invariant: the bytes of the numbers passed stand at the front. Assumes nothing.
 use Rattle.replay.specs.PairLaws.{pairs-more, pairs-all, inside-set}
 use Rattle.base.specs.WriteLaws.{wrote}
 use Rattle.replay.specs.Agree.{pairs}

@@ -1,9 +1,10 @@
+-- `replay::calls::dying_agrees` meets its contract: what the call ensures of the lent front, and a comparison. Assumes nothing.
 use Rattle.borrow_analysis.specs.Borrows.{dyingReply}
 use Rattle.borrow_analysis.specs.Graph.{given}
 use lib.ListN.{length}
 use Prim.Native.Nat.{ℕ}
 use mathlib.Core.Path.{refl}
-use Rattle.replay.specs.AgreeLaws.{front-long, never, agreed}
+use Rattle.replay.specs.AgreeLaws.{front-long, agreed}
 use borrow.Author.Needs.{needs}
 use Rattle.replay.proofs.calls.dying_agrees.Statement.{statement}
 use Rattle.replay.proofs.calls.dying_agrees.Tie as tie
@@ -17,20 +18,14 @@ slice-aggregate-sorzibelu-dying c = front-long (c .before .before .before .befor
 sorzibelu-dying-requires : tie.Need-sorzibelu-dying-requires
 sorzibelu-dying-requires c κs = search needs
 
+agrees-requires : tie.Need-agrees-requires
+agrees-requires c κs = search needs
+
 same-length : tie.Need-same-length
 same-length c = search needs
 
 returns : tie.Need-returns
-returns c = λ e. never e
-
-same-requires : tie.Need-same-requires
-same-requires c κs = search needs
-
-same-length-2 : tie.Need-same-length-2
-same-length-2 c = search needs
-
-returns-2 : tie.Need-returns-2
-returns-2 c = λ e. agreed (λ (n : ℕ). dyingReply (given (c .before .before .before .before .before .before .before .before .before .before .before .args .nodes) (c .before .before .before .before .before .before .before .before .before .before .before .args .live) (c .before .before .before .before .before .before .before .before .before .before .before .args .triples .now)) (given (c .before .before .before .before .before .before .before .before .before .before .before .args .next-nodes) (c .before .before .before .before .before .before .before .before .before .before .before .args .next-live) (c .before .before .before .before .before .before .before .before .before .before .before .args .next-triples .now)) n) (c .before .before .before .before .before .before .before .before .before .before .before .args .lent) (c .before .before .before .before .before .before .before .before .before .before .before .args .result) (c .before .before .before .before .before .sorzibelu-dying .result) (c .before .before .before .before .before .before .before .before .before .before .before .args .out .now) (c .before .before .before .before .before .sorzibelu-dying .last .1 .1 .1 .1 .1 .1 .0) (c .before .before .before .before .before .before .before .before .before .before .before .args .want .now) (c .before .before .before .before .before .before .before .before .before .before .before .pre) (c .before .before .if1 .left) (c .before .before .before .before .before .sorzibelu-dying .ensures .0) (c .before .before .before .before .before .sorzibelu-dying .ensures .1) (c .same .ensures .0 e)
+returns c = let a = c .before .before .before .before .before .before .before .before .before .before .args in let r = c .before .before .before .before .sorzibelu-dying in agreed (λ (n : ℕ). dyingReply (given (a .nodes) (a .live) (a .triples .now)) (given (a .next-nodes) (a .next-live) (a .next-triples .now)) n) (a .lent) (a .result) (r .result) (a .out .now) (r .last .1 .1 .1 .1 .1 .1 .0) (a .want .now) (c .agrees .result) (c .before .before .before .before .before .before .before .before .before .before .pre) (r .ensures .0) (r .ensures .1) (c .agrees .ensures)
 
 pub dying-agrees-spec : {M : Type 1} → statement M
 dying-agrees-spec =
@@ -39,8 +34,6 @@ dying-agrees-spec =
     slice-relend-prefix-sorzibelu-dying
     slice-aggregate-sorzibelu-dying
     sorzibelu-dying-requires
+    agrees-requires
     same-length
-    returns
-    same-requires
-    same-length-2
-    returns-2)
+    returns)

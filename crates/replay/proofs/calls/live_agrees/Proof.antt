@@ -1,8 +1,9 @@
+-- `replay::calls::live_agrees` meets its contract: what the call ensures of the lent front, and a comparison. Assumes nothing.
 use Rattle.livevar_analysis.specs.Analysis.{liveReply}
 use lib.ListN.{length}
 use Prim.Native.Nat.{ℕ}
 use mathlib.Core.Path.{refl}
-use Rattle.replay.specs.AgreeLaws.{front-long, never, agreed}
+use Rattle.replay.specs.AgreeLaws.{front-long, agreed}
 use borrow.Author.Needs.{needs}
 use Rattle.replay.proofs.calls.live_agrees.Statement.{statement}
 use Rattle.replay.proofs.calls.live_agrees.Tie as tie
@@ -16,20 +17,14 @@ slice-aggregate-sorzibelu-live c = front-long (c .before .before .before .before
 sorzibelu-live-requires : tie.Need-sorzibelu-live-requires
 sorzibelu-live-requires c κs = search needs
 
+agrees-requires : tie.Need-agrees-requires
+agrees-requires c κs = search needs
+
 same-length : tie.Need-same-length
 same-length c = search needs
 
 returns : tie.Need-returns
-returns c = λ e. never e
-
-same-requires : tie.Need-same-requires
-same-requires c κs = search needs
-
-same-length-2 : tie.Need-same-length-2
-same-length-2 c = search needs
-
-returns-2 : tie.Need-returns-2
-returns-2 c = λ e. agreed (λ (n : ℕ). liveReply (c .before .before .before .before .before .before .before .before .before .before .args .sheet .now) n) (c .before .before .before .before .before .before .before .before .before .before .args .lent) (c .before .before .before .before .before .before .before .before .before .before .args .result) (c .before .before .before .before .before .sorzibelu-live .result) (c .before .before .before .before .before .before .before .before .before .before .args .out .now) (c .before .before .before .before .before .sorzibelu-live .last .1 .0) (c .before .before .before .before .before .before .before .before .before .before .args .want .now) (c .before .before .before .before .before .before .before .before .before .before .pre) (c .before .before .if1 .left) (c .before .before .before .before .before .sorzibelu-live .ensures .0) (c .before .before .before .before .before .sorzibelu-live .ensures .1 .0) (c .same .ensures .0 e)
+returns c = let a = c .before .before .before .before .before .before .before .before .before .args in let r = c .before .before .before .before .sorzibelu-live in agreed (λ (n : ℕ). liveReply (a .sheet .now) n) (a .lent) (a .result) (r .result) (a .out .now) (r .last .1 .0) (a .want .now) (c .agrees .result) (c .before .before .before .before .before .before .before .before .before .pre) (r .ensures .0) (r .ensures .1 .0) (c .agrees .ensures)
 
 pub live-agrees-spec : {M : Type 1} → statement M
 live-agrees-spec =
@@ -38,8 +33,6 @@ live-agrees-spec =
     slice-relend-prefix-sorzibelu-live
     slice-aggregate-sorzibelu-live
     sorzibelu-live-requires
+    agrees-requires
     same-length
-    returns
-    same-requires
-    same-length-2
-    returns-2)
+    returns)

@@ -1,3 +1,4 @@
+-- `replay::calls::triples_of` meets its contract: every number read is inside the bytes, and every number stored inside the array. Assumes nothing.
 use Prim.Native.Nat.{_-_, _≤_}
 use mathlib.Core.Path.{_≡_}
 use lib.ListN.{length}

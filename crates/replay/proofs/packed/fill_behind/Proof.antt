@@ -1,3 +1,4 @@
+-- `replay::packed::fill_behind` meets its contract: it writes inside the array, and ends. Assumes nothing.
 use Prim.Native.Nat.{_-_}
 use mathlib.Core.Path.{_≡_}
 use lib.ListN.{length}

@@ -1,3 +1,4 @@
+-- `replay::packed::unpack` meets its contract: it reads inside the packed bytes and writes inside the array, and ends. Assumes nothing.
 use Prim.Native.Nat.{_-_, _≤_}
 use mathlib.Core.Path.{_≡_}
 use lib.ListN.{length}
