@@ -1,6 +1,9 @@
 //! Sheets, live sets and dying nodes: safe calls over the proved archive (crates/c_api).
 //!
 //! Every call takes any slices at all. A refusal leaves what was lent as it was.
+pub mod graph;
+pub mod lent;
+pub mod masks;
 pub mod oracle;
 pub mod page;
 pub mod plain;
@@ -50,6 +53,7 @@ mod ffi {
         pub fn sorzibelu_check(sheet: *const u8, len: usize) -> u64;
         pub fn sorzibelu_flow(sheet: *const u8, len: usize, table: *mut u16, room: usize) -> u64;
         pub fn sorzibelu_live(sheet: *const u8, len: usize, sets: *mut u8, room: usize) -> u64;
+        pub fn sorzibelu_rewrite(sheet: *const u8, len: usize, out: *mut u8, room: usize) -> u64;
         pub fn sorzibelu_in_use(nodes: u32, live: u64, triples: *const u32, len: usize, node: u32) -> u64;
         pub fn sorzibelu_conditional(nodes: u32, live: u64, triples: *const u32, len: usize, node: u32) -> u64;
         pub fn sorzibelu_dying(
@@ -94,6 +98,12 @@ pub fn flow(sheet: &[u8], table: &mut [u16]) -> Result<u32, Refusal> {
 pub fn live(sheet: &[u8], sets: &mut [u8]) -> Result<u32, Refusal> {
     // SAFETY: the call reads `sheet` and reads and writes `sets`, within their lengths.
     unpack(unsafe { ffi::sorzibelu_live(sheet.as_ptr(), sheet.len(), sets.as_mut_ptr(), sets.len()) })
+}
+
+/// The rewritten sheet: how many bytes it has, and they at the front of `out`, which is lent 35,840 bytes or more.
+pub fn rewrite(sheet: &[u8], out: &mut [u8]) -> Result<u32, Refusal> {
+    // SAFETY: the call reads `sheet` and reads and writes `out`, within their lengths.
+    unpack(unsafe { ffi::sorzibelu_rewrite(sheet.as_ptr(), sheet.len(), out.as_mut_ptr(), out.len()) })
 }
 
 /// A borrow graph as it is handed over: ascending triples of parent, child and edge.

@@ -1,5 +1,5 @@
 //! Document 01 read word for word into plain Rust: what the proved calls are compared with where the original Rust says nothing.
-use crate::sheet::*;
+use crate::{sheet::*, Graph};
 
 fn u16_at(s: &[u8], at: usize) -> usize {
     s[at] as usize + 256 * s[at + 1] as usize
@@ -266,4 +266,169 @@ pub fn live(code: &[Instruction]) -> (Vec<(u64, u64)>, u32) {
         }
     }
     (sets, taken)
+}
+
+// ---- rewriting
+
+/// Rewritten code before numbers and lengths are looked at.
+pub struct Rewriting {
+    /// What is left of the code.
+    pub kept: Vec<Instruction>,
+    /// The blocks at the end: Label, Destroys, Jump.
+    pub added: Vec<Instruction>,
+    /// The highest Label and attribute id, old or new.
+    pub label: usize,
+    pub attr: usize,
+}
+
+/// Of accepted code.
+pub fn rewriting(sheet: &Sheet) -> Rewriting {
+    let code = &sheet.code;
+    let (sets, _) = live(code);
+    let in_after = |k: usize, local: u8| sets[k].1 >> local & 1 == 1;
+    // a Call with one destination d, directly before an Assign from d with d not in the Assign's after
+    let merges = |k: usize| {
+        let one = code[k].kind == CALL && code[k].dsts.len() == 1;
+        one && code.get(k + 1).is_some_and(|a| a.kind == ASSIGN && a.srcs == code[k].dsts) && !in_after(k + 1, code[k].dsts[0])
+    };
+    let dropped = |k: usize| matches!(code[k].kind, LOAD | ASSIGN) && !in_after(k, code[k].dsts[0]);
+    let target = |label: u16| code.iter().position(|r| r.kind == LABEL && r.one == label).unwrap();
+    let mut w = Rewriting {
+        kept: vec![],
+        added: vec![],
+        label: code.iter().filter(|r| r.kind == LABEL).map(|r| r.one as usize).max().unwrap_or(0),
+        attr: code.iter().map(|r| r.attr as usize).max().unwrap_or(0),
+    };
+    for k in 0..code.len() {
+        if dropped(k) || k > 0 && merges(k - 1) {
+            continue;
+        }
+        let mut r = code[k].clone();
+        if merges(k) {
+            r.dsts = code[k + 1].dsts.clone();
+        }
+        if r.kind == BRANCH {
+            for edge in [&mut r.one, &mut r.two] {
+                let lost = sheet.references & sets[k].1 & !sets[target(*edge)].0;
+                if lost != 0 {
+                    w.label += 1;
+                    let destroy = |i: u8| Instruction { sub: 13, srcs: vec![i], ..Instruction::new(CALL) };
+                    let label = Instruction { one: w.label as u16, ..Instruction::new(LABEL) };
+                    let jump = Instruction { one: *edge, ..Instruction::new(JUMP) };
+                    let destroys = (0..64).filter(|i| lost >> i & 1 == 1).map(destroy);
+                    for new in [label].into_iter().chain(destroys).chain([jump]) {
+                        w.attr += 1;
+                        w.added.push(Instruction { attr: w.attr as u16, ..new });
+                    }
+                    *edge = w.label as u16;
+                }
+            }
+        }
+        w.kept.push(r);
+    }
+    w
+}
+
+/// The rewritten sheet where enough room is lent; where less, 9 comes behind 1 to 8 and before 10 and 11.
+pub fn rewrite(s: &[u8]) -> Result<Vec<u8>, (u16, u16)> {
+    check(s)?;
+    let sheet = Sheet::of_bytes(s);
+    let w = rewriting(&sheet);
+    if !w.added.is_empty() && (w.label > 65_535 || w.attr > 65_535) {
+        return Err((10, 0));
+    }
+    if w.kept.len() + w.added.len() > 1024 {
+        return Err((11, 0));
+    }
+    Ok(Sheet { code: [w.kept, w.added].concat(), ..sheet }.bytes())
+}
+
+// ---- borrow graphs
+
+/// 12 of every graph, then 13 of every graph.
+pub fn check_graphs(graphs: &[Graph]) -> Result<(), (u16, u16)> {
+    for (i, g) in graphs.iter().enumerate() {
+        if g.nodes > 64 || g.nodes < 64 && g.live >> g.nodes != 0 {
+            return Err((12, i as u16));
+        }
+    }
+    for (i, g) in graphs.iter().enumerate() {
+        let place = |x: usize| 1000 * i as u16 + x as u16;
+        if g.triples.len() % 3 != 0 || g.triples.len() > 3 * 256 {
+            return Err((13, place(300)));
+        }
+        let triples: Vec<&[u32]> = g.triples.chunks(3).collect();
+        for (t, triple) in triples.iter().enumerate() {
+            if triple[0] >= g.nodes || triple[1] >= g.nodes || t > 0 && *triple <= triples[t - 1] {
+                return Err((13, place(t)));
+            }
+        }
+    }
+    Ok(())
+}
+
+/// A node and its descendants.
+fn family(g: Graph, node: u32) -> Vec<u32> {
+    let mut all = vec![node];
+    let mut next = 0;
+    while next < all.len() {
+        let parent = all[next];
+        for t in g.triples.chunks(3).filter(|t| t[0] == parent) {
+            if !all.contains(&t[1]) {
+                all.push(t[1]);
+            }
+        }
+        next += 1;
+    }
+    all
+}
+
+fn lives(g: Graph, node: u32) -> bool {
+    node < g.nodes && g.live >> node & 1 == 1
+}
+
+fn used(g: Graph, node: u32) -> bool {
+    node < g.nodes && family(g, node).iter().any(|x| lives(g, *x))
+}
+
+fn check_asked(g: Graph, node: u32) -> Result<(), (u16, u16)> {
+    check_graphs(&[g])?;
+    if node >= g.nodes { Err((14, 0)) } else { Ok(()) }
+}
+
+/// The node or a descendant is live.
+pub fn in_use(g: Graph, node: u32) -> Result<bool, (u16, u16)> {
+    check_asked(g, node)?;
+    Ok(used(g, node))
+}
+
+/// The node or a descendant has more than one incoming triple.
+pub fn conditional(g: Graph, node: u32) -> Result<bool, (u16, u16)> {
+    check_asked(g, node)?;
+    let incoming = |x: u32| g.triples.chunks(3).filter(|t| t[1] == x).count();
+    Ok(family(g, node).iter().any(|x| incoming(*x) > 1))
+}
+
+/// The listed nodes, with so many bytes lent.
+pub fn dying(g: Graph, next: Graph, room: usize) -> Result<Vec<u8>, (u16, u16)> {
+    check_graphs(&[g, next])?;
+    if room < g.nodes as usize {
+        return Err((9, 0));
+    }
+    fn visit(g: Graph, next: Graph, node: u32, listed: &mut Vec<u8>) {
+        if listed.contains(&(node as u8)) {
+            return;
+        }
+        listed.push(node as u8);
+        for parent in (0..g.nodes).filter(|p| g.triples.chunks(3).any(|t| t[0] == *p && t[1] == node)) {
+            if !used(next, parent) {
+                visit(g, next, parent, listed);
+            }
+        }
+    }
+    let mut listed = vec![];
+    for node in (0..g.nodes).filter(|x| lives(g, *x) && !lives(next, *x) && !used(next, *x)) {
+        visit(g, next, node, &mut listed);
+    }
+    Ok(listed)
 }

@@ -1,5 +1,5 @@
 //! Random sheets, and damaged copies of them.
-use crate::sheet::*;
+use crate::{plain, sheet::*};
 
 /// Marsaglia's xorshift.
 pub struct Rng(u64);
@@ -45,6 +45,10 @@ pub fn sheet(rng: &mut Rng, shape: Shape) -> Sheet {
     let mut numbers: Vec<u16> = (0..labels).map(|i| (i * step + if rng.chance(20) { 60_000 } else { 0 }) as u16).collect();
     numbers.sort_unstable();
     numbers.dedup();
+    if step % 12 == 5 {
+        let up = 65_535 - numbers.last().copied().unwrap_or(0);
+        numbers.iter_mut().for_each(|l| *l += up);
+    }
     let mut code: Vec<Instruction> = vec![];
     let mut places: Vec<usize> = (0..n - 1).collect();
     for i in (1..places.len()).rev() {
@@ -142,6 +146,88 @@ pub fn shape(rng: &mut Rng) -> Shape {
     Shape { n, locals, labels: rng.below(1 + n / 2), flags: rng.chance(2) }
 }
 
+/// A sheet whose Branches lose references on many edges.
+pub fn lossy(rng: &mut Rng) -> Sheet {
+    let locals = if rng.chance(2) { 64 } else { 1 + rng.below(64) };
+    let blocks = if rng.chance(4) { 2 + rng.below(60) } else { 2 + rng.below(8) };
+    let step = 1 + rng.below(40);
+    let labels: Vec<u16> = (0..blocks).map(|i| (i * step + 1) as u16).collect();
+    let mut code = vec![];
+    for l in &labels {
+        code.push(Instruction { one: *l, ..Instruction::new(LABEL) });
+        for _ in 0..rng.below(4) {
+            let mut r = Instruction::new([PROP, CALL, LOAD, CALL][rng.below(4)]);
+            match r.kind {
+                PROP => r.srcs = list(rng, locals, 8, 8),
+                LOAD => r.dsts = list(rng, locals, 1, 1),
+                _ => {
+                    r.sub = 28;
+                    r.dsts = list(rng, locals, 1, 8);
+                    r.srcs = list(rng, locals, 0, 8);
+                }
+            }
+            code.push(r);
+        }
+        let mut end = Instruction::new([BRANCH, BRANCH, BRANCH, RET, ABORT][rng.below(5)]);
+        match end.kind {
+            BRANCH => {
+                end.one = labels[rng.below(blocks)];
+                end.two = labels[rng.below(blocks)];
+                end.srcs = list(rng, locals, 1, 1);
+            }
+            RET => end.srcs = list(rng, locals, 0, 8),
+            _ => end.srcs = list(rng, locals, 1, 1),
+        }
+        code.push(end);
+    }
+    for r in &mut code {
+        r.attr = rng.below(300) as u16;
+    }
+    let few = if rng.chance(3) { rng.next() } else { u64::MAX };
+    Sheet { locals: locals as u16, references: few >> (64 - locals), code, ..Default::default() }
+}
+
+/// The sheet moved to an edge of 10 or 11, on either side of it: its highest Label, its highest attribute id, or its length by Nops in front.
+/// None where it gets no new block, or cannot be moved there.
+pub fn edge(rng: &mut Rng, sheet: &Sheet) -> Option<Sheet> {
+    let w = plain::rewriting(sheet);
+    if w.added.is_empty() {
+        return None;
+    }
+    let mut sheet = sheet.clone();
+    let past = rng.below(2);
+    let way = rng.below(4);
+    if way == 0 || way == 3 {
+        let old = sheet.code.iter().filter(|r| r.kind == LABEL).map(|r| r.one).max()?;
+        let new = (65_535 - w.added.iter().filter(|r| r.kind == LABEL).count() + past) as u16;
+        if old > new {
+            return None;
+        }
+        for r in &mut sheet.code {
+            if r.one == old && (matches!(r.kind, LABEL | JUMP | BRANCH) || r.abort.is_some()) {
+                r.one = new;
+            }
+            if r.two == old && r.kind == BRANCH {
+                r.two = new;
+            }
+        }
+    }
+    if way == 1 {
+        let most = (65_535 - w.added.len() + past) as u16;
+        sheet.code.iter_mut().for_each(|r| r.attr = r.attr.min(most));
+        let at = rng.below(sheet.code.len());
+        sheet.code[at].attr = most;
+    }
+    if way >= 2 {
+        let more = (1024 + rng.below(2)).checked_sub(w.kept.len() + w.added.len())?;
+        if sheet.code.len() + more > 1024 {
+            return None;
+        }
+        sheet.code.splice(0..0, vec![Instruction::new(NOP); more]);
+    }
+    Some(sheet)
+}
+
 /// One or two changes of a sheet's bytes, or of its code; mostly sealed again, so that later checks are met.
 pub fn damage(rng: &mut Rng, s: &[u8]) -> Vec<u8> {
     if rng.chance(3) {
@@ -201,4 +287,19 @@ fn damaged_code(rng: &mut Rng, s: &[u8]) -> Vec<u8> {
         }
     }
     sheet.bytes()
+}
+
+/// A sheet of 1,024 instructions that keeps the work list full: a ring of flagged Calls, each a block of its own that hears of one
+/// more local at a time. It comes to more removals than 16 bits can count.
+pub fn fullest() -> Sheet {
+    let mut code = vec![Instruction { one: 1, ..Instruction::new(LABEL) }];
+    for k in 0..16 * 63u16 {
+        code.push(Instruction { sub: 28, one: 2, srcs: vec![(k % 63) as u8], abort: Some(63), ..Instruction::new(CALL) });
+    }
+    let jump = Instruction { one: 1, ..Instruction::new(JUMP) };
+    code.push(jump.clone());
+    code.push(Instruction { one: 2, ..Instruction::new(LABEL) });
+    code.push(Instruction { srcs: vec![63], ..Instruction::new(RET) });
+    code.resize(1_024, jump);
+    Sheet { locals: 64, code, ..Default::default() }
 }

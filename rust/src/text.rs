@@ -18,8 +18,9 @@
 //! | Nop, SaveMem, SaveSpecVar | `nop`, `savemem`, `savespecvar` |
 //! | Prop | `prop Assert t0 t1` |
 //!
-//! Behind an instruction `#5` is its payload and `@7` its attribute id, 0 where they are left out. `//` starts a comment.
-use crate::sheet::*;
+//! Behind an instruction `#5` is its payload and `@7` its attribute id, 0 where they are left out. `//` starts a comment. In front of an
+//! instruction its offset may stand, as `0: nop`; a wrong one is an error.
+use crate::{sheet::*, Refusal};
 use std::{fmt, fmt::Write};
 
 const OPERATIONS: [&str; 55] = [
@@ -129,6 +130,18 @@ impl<'a> Words<'a> {
             w if w == word => Ok(()),
             w => self.fault(format!("'{w}' where '{word}' should stand")),
         }
+    }
+
+    /// An offset such as `3:` where one stands, which must be this one.
+    fn offset(&mut self, wanted: usize) -> Result<(), Fault> {
+        let Some(w) = self.peek().filter(|w| w.len() > 1 && w[..w.len() - 1].bytes().all(|d| d.is_ascii_digit()) && w.ends_with(':')) else {
+            return Ok(());
+        };
+        if w[..w.len() - 1].parse() != Ok(wanted) {
+            return self.fault(format!("'{w}' stands before the instruction of offset {wanted}"));
+        }
+        self.left.pop();
+        Ok(())
     }
 
     fn number<N: TryFrom<u64>>(&mut self, prefix: &str, wanted: &str) -> Result<N, Fault> {
@@ -270,7 +283,13 @@ fn line(w: &mut Words) -> Result<Instruction, Fault> {
 
 /// The sheet that a text writes down. The checks still decide whether it is accepted.
 pub fn assemble(text: &str) -> Result<Sheet, Fault> {
+    assemble_lines(text).map(|(sheet, _)| sheet)
+}
+
+/// The sheet, and the lines of the heading and of each instruction.
+pub fn assemble_lines(text: &str) -> Result<(Sheet, Vec<usize>), Fault> {
     let mut sheet: Option<Sheet> = None;
+    let mut lines = vec![];
     let mut last = 1;
     for (i, l) in text.lines().enumerate() {
         let mut w = Words { line: i + 1, left: l.split("//").next().unwrap_or("").split_whitespace().rev().collect() };
@@ -278,6 +297,7 @@ pub fn assemble(text: &str) -> Result<Sheet, Fault> {
         if w.left.is_empty() {
             continue;
         }
+        lines.push(i + 1);
         match &mut sheet {
             None => {
                 sheet = Some(heading(&mut w)?);
@@ -289,14 +309,21 @@ pub fn assemble(text: &str) -> Result<Sheet, Fault> {
                 if s.code.len() == 1024 {
                     return w.fault("more than 1,024 instructions");
                 }
+                w.offset(s.code.len())?;
                 let r = line(&mut w)?;
                 s.code.push(r);
             }
         }
     }
     match sheet {
-        Some(s) if !s.code.is_empty() => Ok(s),
+        Some(s) if !s.code.is_empty() => Ok((s, lines)),
         Some(_) => Err(Fault { line: last, what: "no instruction".into() }),
         None => Err(Fault { line: last, what: "no heading: the first line is 'locals N user N parameters N references ..'".into() }),
     }
+}
+
+/// Where in a text a refusal of its sheet belongs: the line of the offset that it names, else the heading's.
+pub fn refused(refusal: Refusal, lines: &[usize]) -> Fault {
+    let at = if (4..=8).contains(&refusal.number) { 1 + refusal.place as usize } else { 0 };
+    Fault { line: lines.get(at).copied().unwrap_or(1), what: refusal.to_string() }
 }

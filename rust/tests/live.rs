@@ -48,3 +48,12 @@ fn refused_sheets_change_nothing() {
         }
     }
 }
+
+#[test]
+fn the_fullest_work_list() {
+    let sheet = random::fullest();
+    let mut out = vec![0; 16 * 1024];
+    let taken = live(&sheet.bytes(), &mut out).unwrap();
+    assert_eq!(taken, plain::live(&sheet.code).1);
+    assert_eq!(taken, 66_341);
+}

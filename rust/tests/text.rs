@@ -14,6 +14,13 @@ fn round_trip() {
 }
 
 #[test]
+fn offsets_may_stand_in_front() {
+    let plain = "locals 1 user 1 parameters 0 references\nlabel L1\nbranch L1 L2 on t0\nlabel L2\nret\n";
+    let numbered = "locals 1 user 1 parameters 0 references\n0: label L1\n1: branch L1 L2 on t0\nlabel L2\n\n3: ret // the last\n";
+    assert_eq!(text::assemble(numbered), text::assemble(plain));
+}
+
+#[test]
 fn every_error_has_its_line() {
     let head = "locals 2 user 2 parameters 0 references t1\n";
     for (text, line, part) in [
@@ -36,6 +43,11 @@ fn every_error_has_its_line() {
         (&format!("{head}ret t1 #4\n"), 2, "'ret' has no payload"),
         (&format!("{head}ret t1 @70000\n"), 2, "too large"),
         (&format!("{head}ret t1 t\n"), 2, "'t' stands behind the end"),
+        (&format!("{head}0: nop\n\n2: ret\n"), 4, "'2:' stands before the instruction of offset 1"),
+        (&format!("{head}99999999999999999999: ret\n"), 2, "stands before the instruction of offset 0"),
+        (&format!("{head}0:\n"), 2, "the line ends where an instruction should stand"),
+        (&format!("{head}: ret\n"), 2, "':' is no instruction"),
+        (&format!("{head}x: ret\n"), 2, "'x:' is no instruction"),
     ] {
         let fault = text::assemble(text).expect_err(text);
         assert!(fault.line == line && fault.what.contains(part), "{text:?}: {fault}");

@@ -4,8 +4,6 @@ pub mod RewriteAccepted
 pub mod Walk
 pub mod TransformLaws
 pub mod NewCodeLaws
-pub mod NewSheetLaws
 pub mod RewriteWork
 pub mod RewriteCallLaws
-pub mod WholeLaws
 pub mod Unchanged

@@ -1,21 +1,20 @@
 -- The new code, record behind record: what is written so far, the block of an edge, the kept instructions and all blocks. Assumes nothing.
 use mathlib.Core.Path.{_≡_, refl, sym, ap, ap₂, _∙_, subst}
 use mathlib.Core.Bool.{Bool, true, false, cond, not, true≢false}
-use mathlib.Core.List.{List, [], _∷_, _++_, append-assoc, append-nil}
+use mathlib.Core.List.{List, [], _∷_, _++_}
 use Prim.Native.Nat.{ℕ, suc, _+_, _-_, _*_, _/_, _%_, _^_, _≤_, _<_}
 use native.Mathlib.Numerals.{add-one}
 use native.Mathlib.Omega.{arith}
 use borrow.Author.Tests.{eq-eqb, ne-eqb, lt-ltb}
 use lib.Count.{ones}
 use lib.Dec.{eqb, ltb}
-use lib.ListN.{getD, length, take, drop, length-append, length-drop, drop-of-length-le}
+use lib.ListN.{getD, length, take, drop, length-append, length-drop}
 use lib.Seq.{take-suc, take-all, length-take-le}
 use Rattle.base.specs.Sizes.{maxLocals, maxNumber, maxInstructions, recordBytes}
-use Rattle.base.specs.Lists.{total, joins, gather}
+use Rattle.base.specs.Lists.{total, joins}
 use Rattle.base.specs.ListLaws.{by-eq}
 use Rattle.base.specs.JoinLaws.{joins-length, total-same, total-le}
-use Rattle.base.specs.PartLaws.{gather-length}
-use Rattle.base.specs.WriteLaws.{part-more, drop-front, length-kept}
+use Rattle.base.specs.WriteLaws.{drop-front}
 use Rattle.dataflow_domains.specs.Mask.{minus}
 use Rattle.dataflow_domains.specs.MaskLaws.{minus-lt}
 use Rattle.dataflow_domains.specs.Members.{members, Lowest}
@@ -23,63 +22,16 @@ use Rattle.dataflow_domains.specs.MemberLaws.{walk-more, walk-end, members-leng
 use Rattle.stackless_bytecode.specs.declared.Bytecode.{Bytecode}
 use Rattle.stackless_bytecode.specs.Kinds.{Call, Label, Jump, Destroy, at, nop}
 use Rattle.sheet.specs.Layout.{countOf, codeOf, instructionAt, encode}
-use Rattle.sheet.specs.EncodeLaws.{record-size}
 use Rattle.sheet.specs.Checks.{checkSheet}
 use Rattle.base.specs.Refusals.{Accepted}
 use Rattle.livevar_analysis.specs.InputLaws.{code-at}
+use Rattle.sheet_writer.specs.RecordsLaws.{placed, placed-none, placed-more, placed-one, tail-put, placed-length}
 use Rattle.livevar_transform.specs.declared.transform.Next.{Next}
 use Rattle.livevar_analysis.specs.Analysis.{LiveVarInfo}
 use Rattle.livevar_analysis.specs.Output.{infosOf}
 use Rattle.livevar_transform.specs.Rewrite.{made, aimed, into, destroys, destroyBlock, blockSize, isMerged, isDropped, targetOf, lostRefs, isLosing, labelFor, attrFor, goesTo, standsFor, keptCode, blockOn, addedCode, transformCode, nextFreeAttr}
 use Rattle.livevar_transform.specs.RewriteLaws.{destroys-length, destroy-at, block-size, by-stands, edge-target, edge-target-else, is-merged, merged-inside}
 use Rattle.livevar_transform.specs.TransformLaws.{Known, Loses, Numbers, here, size, some-ones, added-is, attr-first, Past, numbers-past}
-
--- ---- records that are written
-
--- a slice with the records of this code at its front
-abbrev pub placed : List Bytecode → List ℕ → List ℕ
-placed code d = gather encode code ++ drop (recordBytes * length code) d
-
-pub gather-append : {A B : Type 0} (f : A → List B) (xs ys : List A) → gather f (xs ++ ys) ≡ gather f xs ++ gather f ys
-unfolding gather
-gather-append f [] ys = refl
-gather-append {A} {B} f (x ∷ xs) ys = ap (λ (l : List B). f x ++ l) (gather-append f xs ys) ∙ sym (append-assoc (f x) (gather f xs) (gather f ys))
-
-pub records-length : (code : List Bytecode) → length (gather encode code) ≡ recordBytes * length code
-records-length code = gather-length recordBytes encode record-size code
-
--- none
-pub placed-none : (d : List ℕ) → d ≡ placed [] d
-unfolding gather
-placed-none d = refl
-
--- the part from a on comes back with more records at its front
-pub placed-more : (code more : List Bytecode) (d : List ℕ) (a : ℕ) → a ≡ recordBytes * length code
-    → take a (placed code d) ++ placed more (drop a (placed code d)) ≡ placed (code ++ more) d
-placed-more code more d a e =
-    let sum : a + recordBytes * length more ≡ recordBytes * length (code ++ more) = omega (arith, length-append code more) in
-    ap (λ (x : List ℕ). take a x ++ (gather encode more ++ drop (recordBytes * length more) (drop a x))) (ap (λ (x : ℕ). gather encode code ++ drop x d) (sym e))
-    ∙ part-more (gather encode code) (gather encode more) d a (recordBytes * length more) (records-length code ∙ sym e)
-    ∙ ap₂ (λ (l : List ℕ) (x : ℕ). l ++ drop x d) (sym (gather-append encode code more)) sum
-
--- one record
-pub placed-one : (r : Bytecode) (d x : List ℕ) → x ≡ encode r → x ++ drop recordBytes d ≡ placed (r ∷ []) d
-unfolding gather
-placed-one r d x e = ap (λ (l : List ℕ). l ++ drop recordBytes d) (e ∙ sym (append-nil (encode r)))
-
--- the rest of a slice, from a on, is lent
-pub tail-is : (out : List ℕ) (a : ℕ) → take (length out - a) (drop a out) ≡ drop a out
-tail-is out a = take-all (length out - a) (drop a out) (omega (arith, length-drop a out))
-
-pub tail-room : (out : List ℕ) (a b : ℕ) → a + b ≤ length out → b ≤ length (take (length out - a) (drop a out))
-tail-room out a b h = omega (arith, length-drop a out, ap length (tail-is out a))
-
-pub tail-put : (more : List Bytecode) (out new : List ℕ) (a : ℕ) → new ≡ placed more (take (length out - a) (drop a out)) → take a out ++ (new ++ drop (length out - a) (drop a out)) ≡ take a out ++ placed more (drop a out)
-tail-put more out new a e =
-    ap (λ (x : List ℕ). take a out ++ (new ++ x)) (drop-of-length-le (drop a out) {i = length out - a} (omega (arith, length-drop a out))) ∙ ap (λ (x : List ℕ). take a out ++ x) (append-nil new ∙ e ∙ ap (placed more) (tail-is out a))
-
-pub placed-length : (code : List Bytecode) (d : List ℕ) → recordBytes * length code ≤ length d → length (placed code d) ≡ length d
-placed-length code d h = length-kept (gather encode code) d (recordBytes * length code) (records-length code) h
 
 -- ---- the Destroys of a set: its members are taken out one by one, the least first
 

@@ -23,9 +23,12 @@ use Rattle.base.specs.ListLaws.{or-false, by-test, getD-in, in-getD, and-true}
 use Rattle.base.specs.JoinLaws.{by-lt, total-le, count-lt}
 use Rattle.livevar_transform.specs.RewriteLaws.{Part, Merged, is-merged, merged-inside, Where, where-is, new-length, new-kept, added-part, pos-inside, by-stands, losing-some, some-losing, losing-branch, in-lost, last-kept, size-is, size-some, new-sound, new-unique, added-length}
 use Rattle.dataflow_domains.specs.MaskLaws.{bit-above}
-use Rattle.sheet.specs.AcceptedLaws.{accepted-body, assign-fits, local-lt, Bytes, small-by, by-small, heading}
-use Rattle.sheet.specs.EncodeLaws.{Small, Encodes, eight-size, small-nil, small-cons, small-append, small-take, small-drop, small-zeros, sheet-small}
-use Rattle.sheet.specs.AcceptLaws.{and-both, all-by, Body, same-locals, same-users, same-params, same-refs, same-code, accepted-again}
+use Rattle.sheet.specs.AcceptedLaws.{assign-fits, local-lt, Bytes}
+use Rattle.sheet_writer.specs.BodyLaws.{accepted-body, small-by, by-small, heading}
+use Rattle.sheet_writer.specs.EncodeLaws.{Small, Encodes, eight-size, small-nil, small-cons, small-append, small-take, small-drop, small-zeros, sheet-small}
+use Rattle.sheet.specs.AcceptLaws.{and-both, all-by}
+use Rattle.sheet_writer.specs.BodyLaws.{Body}
+use Rattle.sheet_writer.specs.AgainLaws.{same-locals, same-users, same-params, same-refs, same-code, accepted-again}
 
 -- ---- the table of kinds, taken apart
 

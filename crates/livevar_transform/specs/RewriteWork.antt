@@ -23,8 +23,9 @@ use Rattle.livevar_analysis.specs.Output.{infosOf}
 use Rattle.livevar_transform.specs.Rewrite.{blockSize, lostRefs, isLosing, labelFor, attrFor, blockOn, addedCode, transformCode, Written, rewritten, writtenReply}
 use Rattle.livevar_transform.specs.RewriteLaws.{size-is, losing-some, pos, startOf, added-length, new-length}
 use Rattle.livevar_transform.specs.TransformLaws.{Known, Ready, Numbers, size}
-use Rattle.livevar_transform.specs.NewCodeLaws.{placed, Fitting, written-is, edge-room, added-are}
-use Rattle.livevar_transform.specs.NewSheetLaws.{bodyBytes, Holds, few-blocks}
+use Rattle.livevar_transform.specs.NewCodeLaws.{Fitting, written-is, edge-room, added-are}
+use Rattle.sheet_writer.specs.RecordsLaws.{placed}
+use Rattle.sheet_writer.specs.SheetLaws.{bodyBytes, Holds, few-blocks}
 
 -- ---- what is asked and answered
 

@@ -15,13 +15,14 @@ use Rattle.stackless_bytecode.specs.declared.Bytecode.{Bytecode}
 use Rattle.stackless_bytecode.specs.Kinds.{at, nop}
 use Rattle.sheet.specs.Layout.{headingRest, refsOf, codeOf, sheetOf}
 use Rattle.sheet.specs.Checks.{checkSheet}
-use Rattle.sheet.specs.AcceptedLaws.{Bytes, accepted-body}
+use Rattle.sheet.specs.AcceptedLaws.{Bytes}
+use Rattle.sheet_writer.specs.BodyLaws.{accepted-body}
 use Rattle.livevar_analysis.specs.Analysis.{LiveVarInfo}
 use Rattle.livevar_transform.specs.Rewrite.{aimed, destroyBlock, isMerged, isDropped, targetOf, lostRefs, isLosing, labelFor, attrFor, goesTo, standsFor, keptCode, blockOn, addedCode, transformCode, Written, rewritten}
 use Rattle.livevar_transform.specs.RewriteLaws.{is-merged, merged-inside, behind-dropped, by-stands, edge-target, edge-target-else}
 use Rattle.livevar_transform.specs.RewriteAccepted.{sheetInfo}
 use Rattle.livevar_transform.specs.NewCodeLaws.{kept-in}
-use Rattle.livevar_transform.specs.WholeLaws.{whole-again}
+use Rattle.sheet_writer.specs.WholeLaws.{whole-again}
 
 -- nothing is dropped, so nothing is merged either, and no edge loses a reference
 pub record Untouched (code : List Bytecode) (is : List LiveVarInfo) (refs : ℕ) : Type 0 where

@@ -18,13 +18,14 @@ ghost use Rattle.sheet.specs.Checks.{checkSheet};
 ghost use Rattle.livevar_analysis.specs.Output.{infosOf};
 ghost use Rattle.livevar_transform.specs.Rewrite.{made, aimed, into, destroys, destroyBlock, blockSize, isDead, isMerged, isDropped, targetOf, highest, nextFreeLabel, nextFreeAttr, lostRefs, standsFor, keptCode, blockOn, addedCode, transformCode};
 ghost use Rattle.livevar_transform.specs.TransformLaws.{Known, Ready, sidesAt, Loses, Past, Numbers, Counted};
-ghost use Rattle.livevar_transform.specs.NewCodeLaws.{placed, Room, Fitting};
+ghost use Rattle.livevar_transform.specs.NewCodeLaws.{Room, Fitting};
+ghost use Rattle.sheet_writer.specs.RecordsLaws.{placed};
 use base::LIST_PLACES;
 use base::RECORD_BYTES;
 use base::SET_BYTES;
 use dataflow_domains::LiveVarState;
 use sheet::reader::instruction_at;
-use sheet::writer::encode;
+use sheet_writer::writer::encode;
 use stackless_bytecode::Bytecode;
 
 // The operation Destroy, by its place in the enum `Operation`.

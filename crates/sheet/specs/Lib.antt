@@ -2,7 +2,6 @@ pub mod Layout
 pub mod Checks
 pub mod Shaped
 pub mod CheckLaws
-pub mod EncodeLaws
 pub mod AcceptLaws
 pub mod AcceptedLaws
 pub mod Valid
@@ -13,4 +12,3 @@ pub mod Labelled
 pub mod LabelLaws
 pub mod NameLaws
 pub mod FormLaws
-pub mod WriterLaws

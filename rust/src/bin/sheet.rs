@@ -8,9 +8,9 @@ fn run(args: &[String]) -> Result<(), String> {
     match args.iter().map(String::as_str).collect::<Vec<_>>()[..] {
         ["assemble", from, to] => {
             let text = String::from_utf8(read(from)?).map_err(|_| format!("{from}: not a text"))?;
-            let sheet = text::assemble(&text).map_err(|f| format!("{from}: {f}"))?.bytes();
-            check(&sheet).map_err(|r| format!("{from}: {r}"))?;
-            fs::write(to, sheet).map_err(|e| format!("{to}: {e}"))
+            let (sheet, lines) = text::assemble_lines(&text).map_err(|f| format!("{from}: {f}"))?;
+            check(&sheet.bytes()).map_err(|r| format!("{from}: {}", text::refused(r, &lines)))?;
+            fs::write(to, sheet.bytes()).map_err(|e| format!("{to}: {e}"))
         }
         ["list", from] => {
             let bytes = read(from)?;

@@ -6,7 +6,7 @@ use Prim.Native.Nat.{_-_, _*_}
 use Rattle.base.specs.Sizes.{maxBlocks}
 use Rattle.sheet.specs.Valid.{accepted-valid}
 use Rattle.sheet.specs.CheckLaws.{code-length}
-use Rattle.livevar_transform.specs.NewSheetLaws.{bodyBytes}
+use Rattle.sheet_writer.specs.SheetLaws.{bodyBytes}
 use Rattle.livevar_transform.specs.RewriteCallLaws.{asked}
 use Rattle.livevar_transform.proofs.rewrite.analyze_and_transform.Statement.{statement}
 use Rattle.livevar_transform.proofs.rewrite.analyze_and_transform.Tie as tie

@@ -1,6 +1,6 @@
 -- `livevar_transform::rewrite::write_new` meets its contract. Assumes nothing.
 use Rattle.livevar_transform.specs.TransformLaws.{long}
-use Rattle.livevar_transform.specs.NewSheetLaws.{few-blocks}
+use Rattle.sheet_writer.specs.SheetLaws.{few-blocks}
 use Rattle.livevar_transform.specs.RewriteWork.{blank-long, blank-holds}
 use native.Mathlib.Omega.{arith}
 use borrow.Author.Needs.{needs}

@@ -1,6 +1,7 @@
 -- `livevar_transform::transform::put_all_blocks` meets its contract. Assumes nothing.
 use Rattle.livevar_transform.specs.Rewrite.{blockSize, lostRefs, blockOn}
-use Rattle.livevar_transform.specs.NewCodeLaws.{placed, written-is, edge-room, all-added, pieces-none, pieces-more, tail-room}
+use Rattle.livevar_transform.specs.NewCodeLaws.{written-is, edge-room, all-added, pieces-none, pieces-more}
+use Rattle.sheet_writer.specs.RecordsLaws.{placed, tail-room}
 use mathlib.Core.Path.{_≡_, refl, ap}
 use Prim.Native.Nat.{ℕ, _*_, _-_, _≤_}
 use lib.ListN.{length}
@@ -11,7 +12,8 @@ use Rattle.sheet.specs.Layout.{codeOf}
 use Rattle.livevar_analysis.specs.Output.{infosOf}
 use Rattle.livevar_transform.specs.Rewrite.{blockOn}
 use Rattle.livevar_transform.specs.TransformLaws.{Numbers, few}
-use Rattle.livevar_transform.specs.NewCodeLaws.{placed, written-is, edge-room, all-added, pieces-none, pieces-more}
+use Rattle.livevar_transform.specs.NewCodeLaws.{written-is, edge-room, all-added, pieces-none, pieces-more}
+use Rattle.sheet_writer.specs.RecordsLaws.{placed}
 use borrow.Author.Needs.{needs}
 use native.Mathlib.Omega.{arith}
 use Rattle.livevar_transform.proofs.transform.put_all_blocks.Statement.{statement}

@@ -1,7 +1,9 @@
 -- `livevar_transform::transform::put_all_kept` meets its contract. Assumes nothing.
-use Rattle.livevar_transform.specs.NewCodeLaws.{placed, joins-none, pieces-none, pieces-more, pieces-length, pieces-end, tail-is}
+use Rattle.livevar_transform.specs.NewCodeLaws.{joins-none, pieces-none, pieces-more, pieces-length, pieces-end}
+use Rattle.sheet_writer.specs.RecordsLaws.{placed, tail-is}
 use lib.ListN.{length-drop}
-use Rattle.livevar_transform.specs.NewCodeLaws.{placed, joins-none, pieces-none, pieces-more, pieces-length, tail-is}
+use Rattle.livevar_transform.specs.NewCodeLaws.{joins-none, pieces-none, pieces-more, pieces-length}
+use Rattle.sheet_writer.specs.RecordsLaws.{placed, tail-is}
 use mathlib.Core.Path.{_≡_, refl, ap}
 use Prim.Native.Nat.{ℕ, _*_, _-_, _≤_}
 use lib.ListN.{length}
@@ -12,7 +14,8 @@ use Rattle.sheet.specs.Layout.{codeOf}
 use Rattle.livevar_analysis.specs.Output.{infosOf}
 use Rattle.livevar_transform.specs.Rewrite.{keptCode}
 use Rattle.livevar_transform.specs.TransformLaws.{Numbers, few}
-use Rattle.livevar_transform.specs.NewCodeLaws.{placed, pieces-none, pieces-more, pieces-length}
+use Rattle.livevar_transform.specs.NewCodeLaws.{pieces-none, pieces-more, pieces-length}
+use Rattle.sheet_writer.specs.RecordsLaws.{placed}
 use borrow.Author.Needs.{needs}
 use native.Mathlib.Omega.{arith}
 use Rattle.livevar_transform.proofs.transform.put_all_kept.Statement.{statement}

@@ -1,6 +1,7 @@
 -- `livevar_transform::transform::put_kept` meets its contract. Assumes nothing.
 use mathlib.Core.Path.{sym, ap, _∙_}
-use Rattle.livevar_transform.specs.NewCodeLaws.{kept-in, kept-out, placed, placed-one, placed-none}
+use Rattle.livevar_transform.specs.NewCodeLaws.{kept-in, kept-out}
+use Rattle.sheet_writer.specs.RecordsLaws.{placed, placed-one, placed-none}
 use lib.ListN.{length}
 use mathlib.Core.List.{List}
 use Rattle.stackless_bytecode.specs.declared.Bytecode.{Bytecode}

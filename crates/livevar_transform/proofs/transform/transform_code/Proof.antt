@@ -7,7 +7,8 @@ use mathlib.Core.Path.{ap}
 use Prim.Native.Nat.{ℕ, _*_}
 use Rattle.base.specs.Sizes.{recordBytes}
 use Rattle.dataflow_domains.specs.Sets.{mask}
-use Rattle.livevar_transform.specs.NewCodeLaws.{code-parts, all-written, tail-room}
+use Rattle.livevar_transform.specs.NewCodeLaws.{code-parts, all-written}
+use Rattle.sheet_writer.specs.RecordsLaws.{tail-room}
 use native.Mathlib.Omega.{arith}
 use borrow.Author.Needs.{needs}
 use Rattle.livevar_transform.proofs.transform.transform_code.Statement.{statement}

@@ -1,0 +1,17 @@
+-- `replay::calls::agrees` meets its contract: true exactly where the results are equal, and the bytes. Assumes nothing.
+use borrow.Author.Needs.{needs}
+use Rattle.replay.specs.AgreeLaws.{never}
+use Rattle.replay.proofs.calls.agrees.Statement.{statement}
+use Rattle.replay.proofs.calls.agrees.Tie as tie
+
+returns : tie.Need-returns
+returns c = (λ e. never e, λ h. absurd (c .if1 .taken (h .0)))
+
+same-requires : tie.Need-same-requires
+same-requires c κs = search needs
+
+returns-2 : tie.Need-returns-2
+returns-2 c = (λ e. (c .before .if1 .left, c .same .ensures .0 e), λ h. c .same .ensures .1 (h .1))
+
+pub agrees-spec : {M : Type 1} → statement M
+agrees-spec = tie.close (tie.spec returns same-requires returns-2)

@@ -1,0 +1,15 @@
+-- `replay::calls::check_agrees` meets its contract: what the call ensures, and a comparison. Assumes nothing.
+use Rattle.c_api.specs.Packed.{checkReply}
+use Rattle.replay.specs.AgreeLaws.{answered}
+use borrow.Author.Needs.{needs}
+use Rattle.replay.proofs.calls.check_agrees.Statement.{statement}
+use Rattle.replay.proofs.calls.check_agrees.Tie as tie
+
+sorzibelu-check-requires : tie.Need-sorzibelu-check-requires
+sorzibelu-check-requires c κs = search needs
+
+returns : tie.Need-returns
+returns c = answered (checkReply (c .before .before .args .sheet .now)) (c .sorzibelu-check .result) (c .before .before .args .result) (c .sorzibelu-check .ensures)
+
+pub check-agrees-spec : {M : Type 1} → statement M
+check-agrees-spec = tie.close (tie.spec sorzibelu-check-requires returns)

@@ -1,0 +1,39 @@
+-- `replay::calls::dying_agrees` meets its contract: what the call ensures of the lent front, and a comparison. Assumes nothing.
+use Rattle.borrow_analysis.specs.Borrows.{dyingReply}
+use Rattle.borrow_analysis.specs.Graph.{given}
+use lib.ListN.{length}
+use Prim.Native.Nat.{ℕ}
+use mathlib.Core.Path.{refl}
+use Rattle.replay.specs.AgreeLaws.{front-long, agreed}
+use borrow.Author.Needs.{needs}
+use Rattle.replay.proofs.calls.dying_agrees.Statement.{statement}
+use Rattle.replay.proofs.calls.dying_agrees.Tie as tie
+
+slice-relend-prefix-sorzibelu-dying : tie.Need-slice-relend-prefix-sorzibelu-dying
+slice-relend-prefix-sorzibelu-dying c = search needs
+
+slice-aggregate-sorzibelu-dying : tie.Need-slice-aggregate-sorzibelu-dying
+slice-aggregate-sorzibelu-dying c = front-long (c .before .before .before .before .before .args .lent) (length (c .before .before .before .before .before .args .out .now)) (c .before .before .before .before .before .args .out .now) (c .before .before .before .before .before .pre) refl
+
+sorzibelu-dying-requires : tie.Need-sorzibelu-dying-requires
+sorzibelu-dying-requires c κs = search needs
+
+agrees-requires : tie.Need-agrees-requires
+agrees-requires c κs = search needs
+
+same-length : tie.Need-same-length
+same-length c = search needs
+
+returns : tie.Need-returns
+returns c = let a = c .before .before .before .before .before .before .before .before .before .before .args in let r = c .before .before .before .before .sorzibelu-dying in agreed (λ (n : ℕ). dyingReply (given (a .nodes) (a .live) (a .triples .now)) (given (a .next-nodes) (a .next-live) (a .next-triples .now)) n) (a .lent) (a .result) (r .result) (a .out .now) (r .last .1 .1 .1 .1 .1 .1 .0) (a .want .now) (c .agrees .result) (c .before .before .before .before .before .before .before .before .before .before .pre) (r .ensures .0) (r .ensures .1) (c .agrees .ensures)
+
+pub dying-agrees-spec : {M : Type 1} → statement M
+dying-agrees-spec =
+    tie.close
+    (tie.spec
+    slice-relend-prefix-sorzibelu-dying
+    slice-aggregate-sorzibelu-dying
+    sorzibelu-dying-requires
+    agrees-requires
+    same-length
+    returns)

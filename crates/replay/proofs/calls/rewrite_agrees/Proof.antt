@@ -1,0 +1,38 @@
+-- `replay::calls::rewrite_agrees` meets its contract: what the call ensures of the lent front, and a comparison. Assumes nothing.
+use Rattle.livevar_transform.specs.Rewrite.{rewriteReply}
+use lib.ListN.{length}
+use Prim.Native.Nat.{ℕ}
+use mathlib.Core.Path.{refl}
+use Rattle.replay.specs.AgreeLaws.{front-long, agreed}
+use borrow.Author.Needs.{needs}
+use Rattle.replay.proofs.calls.rewrite_agrees.Statement.{statement}
+use Rattle.replay.proofs.calls.rewrite_agrees.Tie as tie
+
+slice-relend-prefix-sorzibelu-rewrite : tie.Need-slice-relend-prefix-sorzibelu-rewrite
+slice-relend-prefix-sorzibelu-rewrite c = search needs
+
+slice-aggregate-sorzibelu-rewrite : tie.Need-slice-aggregate-sorzibelu-rewrite
+slice-aggregate-sorzibelu-rewrite c = front-long (c .before .before .before .before .args .lent) (length (c .before .before .before .before .args .out .now)) (c .before .before .before .before .args .out .now) (c .before .before .before .before .pre) refl
+
+sorzibelu-rewrite-requires : tie.Need-sorzibelu-rewrite-requires
+sorzibelu-rewrite-requires c κs = search needs
+
+agrees-requires : tie.Need-agrees-requires
+agrees-requires c κs = search needs
+
+same-length : tie.Need-same-length
+same-length c = search needs
+
+returns : tie.Need-returns
+returns c = let a = c .before .before .before .before .before .before .before .before .before .args in let r = c .before .before .before .before .sorzibelu-rewrite in agreed (λ (n : ℕ). rewriteReply (a .sheet .now) n) (a .lent) (a .result) (r .result) (a .out .now) (r .last .1 .0) (a .want .now) (c .agrees .result) (c .before .before .before .before .before .before .before .before .before .pre) (r .ensures .0) (r .ensures .1 .0) (c .agrees .ensures)
+
+pub rewrite-agrees-spec : {M : Type 1} → statement M
+rewrite-agrees-spec =
+    tie.close
+    (tie.spec
+    slice-relend-prefix-sorzibelu-rewrite
+    slice-aggregate-sorzibelu-rewrite
+    sorzibelu-rewrite-requires
+    agrees-requires
+    same-length
+    returns)

@@ -1,0 +1,286 @@
+// Each call beside a stored answer. `want` is the whole array of which the front is lent: what the call writes, and behind it the fill. Assumes nothing.
+ghost use Prim.Native.Nat.{_+_, _*_, _%_, _/_, _≤_};
+ghost use mathlib.Core.Path.{_≡_};
+ghost use lib.ListN.{length};
+ghost use Rattle.c_api.specs.Packed.{checkReply};
+ghost use Rattle.borrow_analysis.specs.Graph.{given};
+ghost use Rattle.borrow_analysis.specs.Borrows.{inUseReply, conditionalReply, dyingReply};
+ghost use Rattle.stackless_control_flow_graph.specs.Blocks.{flowReply};
+ghost use Rattle.livevar_analysis.specs.Analysis.{liveReply};
+ghost use Rattle.livevar_transform.specs.Rewrite.{rewriteReply};
+ghost use Rattle.replay.specs.Agree.{Says, Answers, Agrees, AgreesPairs, over, pairs};
+use crate::packed::FILL;
+use crate::packed::ROOM;
+use c_api::sorzibelu_check;
+use c_api::sorzibelu_conditional;
+use c_api::sorzibelu_dying;
+use c_api::sorzibelu_flow;
+use c_api::sorzibelu_in_use;
+use c_api::sorzibelu_live;
+use c_api::sorzibelu_rewrite;
+use check::same;
+use sheet::reader::u32_at;
+
+// A lent 16-bit number before a call.
+const FILL_NUMBER: u16 = 42405;
+
+// The most 16-bit numbers that are lent.
+const TABLE_NUMBERS: usize = 8192;
+
+// The bytes of a graph in front of its triples: the count of nodes and the live mask.
+const TRIPLES_AT: usize = 12;
+
+// The most numbers in a list of triples.
+const TRIPLE_NUMBERS: usize = 1021;
+
+// A number of numbers that no list of triples has.
+const NO_GRAPH: usize = TRIPLE_NUMBERS + 1;
+
+// The longest graph.
+pub const GRAPH_BYTES: usize = TRIPLES_AT + 4 * TRIPLE_NUMBERS;
+
+// What came of a case: the call answered as it is stored; otherwise; or the case cannot be asked.
+pub enum Came {
+    Same,
+    Other,
+    Damaged,
+}
+
+fn compared(agrees: bool) -> Came {
+    if agrees { Came::Same } else { Came::Other }
+}
+
+// Whether a call replied with the stored result, and left what is wanted.
+fn agrees(got: u64, result: u64, out: &[u8], want: &[u8]) -> bool
+    ensures { λ r. ⌜ Says r ((got ≡ result) × (now (out .entry) ≡ now (want .entry))) ⌝ }
+{
+    if got != result {
+        return false;
+    }
+    same(out, want)
+}
+
+fn low(x: u16) -> u8
+    ensures { λ r. ⌜ r ≡ x % 256 ⌝ }
+{
+    (x % 256) as u8
+}
+
+fn high(x: u16) -> u8
+    ensures { λ r. ⌜ r ≡ x / 256 ⌝ }
+{
+    (x / 256) as u8
+}
+
+// The two bytes of each number, at the front of `out`.
+fn bytes_of(table: &[u16], out: &mut [u8])
+    requires { ⌜ 2 * length (now table) ≤ length (now out) ⌝ }
+    ensures { λ _. ⌜ now (out .exit) ≡ over (pairs (now (table .entry))) (now (out .entry)) ⌝ }
+{
+    let mut i = 0;
+    while i < table.len() {
+        out[2 * i] = low(table[i]);
+        out[2 * i + 1] = high(table[i]);
+        i += 1;
+    }
+}
+
+fn flow_agrees(
+    sheet: &[u8],
+    lent: usize,
+    result: u64,
+    want: &[u8],
+    table: &mut [u16],
+    out: &mut [u8],
+) -> bool
+    requires { ⌜ (lent ≤ length (now table)) × (2 * length (now table) ≤ length (now out)) ⌝ }
+    ensures { λ r. ⌜ Says r (AgreesPairs (flowReply (now (sheet .entry)) lent) lent result (now (table .entry)) (now (out .entry)) (now (want .entry))) ⌝ }
+{
+    let r = sorzibelu_flow(sheet, &mut table[..lent]);
+    bytes_of(table, out);
+    agrees(r, result, out, want)
+}
+
+fn live_agrees(sheet: &[u8], lent: usize, result: u64, want: &[u8], out: &mut [u8]) -> bool
+    requires { ⌜ lent ≤ length (now out) ⌝ }
+    ensures { λ r. ⌜ Says r (Agrees (liveReply (now (sheet .entry)) lent) lent result (now (out .entry)) (now (want .entry))) ⌝ }
+{
+    let r = sorzibelu_live(sheet, &mut out[..lent]);
+    agrees(r, result, out, want)
+}
+
+fn rewrite_agrees(sheet: &[u8], lent: usize, result: u64, want: &[u8], out: &mut [u8]) -> bool
+    requires { ⌜ lent ≤ length (now out) ⌝ }
+    ensures { λ r. ⌜ Says r (Agrees (rewriteReply (now (sheet .entry)) lent) lent result (now (out .entry)) (now (want .entry))) ⌝ }
+{
+    let r = sorzibelu_rewrite(sheet, &mut out[..lent]);
+    agrees(r, result, out, want)
+}
+
+fn check_agrees(sheet: &[u8], result: u64) -> bool
+    ensures { λ r. ⌜ Says r (Answers (checkReply (now (sheet .entry))) result) ⌝ }
+{
+    sorzibelu_check(sheet) == result
+}
+
+fn in_use_agrees(nodes: u32, live: u64, triples: &[u32], node: u32, result: u64) -> bool
+    ensures { λ r. ⌜ Says r (Answers (inUseReply (given nodes live (now (triples .entry))) node) result) ⌝ }
+{
+    sorzibelu_in_use(nodes, live, triples, node) == result
+}
+
+fn conditional_agrees(nodes: u32, live: u64, triples: &[u32], node: u32, result: u64) -> bool
+    ensures { λ r. ⌜ Says r (Answers (conditionalReply (given nodes live (now (triples .entry))) node) result) ⌝ }
+{
+    sorzibelu_conditional(nodes, live, triples, node) == result
+}
+
+fn dying_agrees(
+    nodes: u32,
+    live: u64,
+    triples: &[u32],
+    next_nodes: u32,
+    next_live: u64,
+    next_triples: &[u32],
+    lent: usize,
+    result: u64,
+    want: &[u8],
+    out: &mut [u8],
+) -> bool
+    requires { ⌜ lent ≤ length (now out) ⌝ }
+    ensures { λ r. ⌜ Says r (Agrees (dyingReply (given nodes live (now (triples .entry))) (given «next_nodes» «next_live» (now («next_triples» .entry))) lent) lent result (now (out .entry)) (now (want .entry))) ⌝ }
+{
+    let r = sorzibelu_dying(
+        nodes,
+        live,
+        triples,
+        next_nodes,
+        next_live,
+        next_triples,
+        &mut out[..lent],
+    );
+    agrees(r, result, out, want)
+}
+
+// The list of triples behind a graph's count and mask, at the front of `out`; the result is its length, above TRIPLE_NUMBERS where these bytes are no graph.
+fn triples_of(p: &[u8], out: &mut [u32]) -> usize {
+    if p.len() < TRIPLES_AT {
+        return NO_GRAPH;
+    }
+    let bytes = p.len() - TRIPLES_AT;
+    if bytes % 4 != 0 {
+        return NO_GRAPH;
+    }
+    let n = bytes / 4;
+    if n > out.len() {
+        return NO_GRAPH;
+    }
+    let mut i = 0;
+    while i < n {
+        out[i] = u32_at(p, TRIPLES_AT + 4 * i);
+        i += 1;
+    }
+    n
+}
+
+fn u64_at(p: &[u8], at: usize) -> u64
+    requires { ⌜ at + 8 ≤ length (now p) ⌝ }
+{
+    u32_at(p, at) as u64 + 4294967296 * (u32_at(p, at + 4) as u64)
+}
+
+fn ask_flow(sheet: &[u8], lent: usize, result: u64, want: &[u8]) -> Came {
+    if lent > TABLE_NUMBERS {
+        return Came::Damaged;
+    }
+    let mut table = [FILL_NUMBER; TABLE_NUMBERS];
+    let mut out = [FILL; ROOM];
+    compared(flow_agrees(sheet, lent, result, want, &mut table, &mut out))
+}
+
+fn ask_live(sheet: &[u8], lent: usize, result: u64, want: &[u8]) -> Came {
+    if lent > ROOM {
+        return Came::Damaged;
+    }
+    let mut out = [FILL; ROOM];
+    compared(live_agrees(sheet, lent, result, want, &mut out))
+}
+
+fn ask_rewrite(sheet: &[u8], lent: usize, result: u64, want: &[u8]) -> Came {
+    if lent > ROOM {
+        return Came::Damaged;
+    }
+    let mut out = [FILL; ROOM];
+    compared(rewrite_agrees(sheet, lent, result, want, &mut out))
+}
+
+// In use, or conditional, of the node in four bytes.
+fn ask_node(conditional: bool, graph: &[u8], asked: &[u8], result: u64) -> Came {
+    let mut triples = [0u32; TRIPLE_NUMBERS];
+    let n = triples_of(graph, &mut triples);
+    if n > TRIPLE_NUMBERS {
+        return Came::Damaged;
+    }
+    if graph.len() < TRIPLES_AT {
+        return Came::Damaged;
+    }
+    if asked.len() != 4 {
+        return Came::Damaged;
+    }
+    let nodes = u32_at(graph, 0);
+    let live = u64_at(graph, 4);
+    let node = u32_at(asked, 0);
+    if conditional {
+        return compared(conditional_agrees(nodes, live, &triples[..n], node, result));
+    }
+    compared(in_use_agrees(nodes, live, &triples[..n], node, result))
+}
+
+fn ask_dying(graph: &[u8], next: &[u8], lent: usize, result: u64, want: &[u8]) -> Came {
+    let mut triples = [0u32; TRIPLE_NUMBERS];
+    let mut next_triples = [0u32; TRIPLE_NUMBERS];
+    let n = triples_of(graph, &mut triples);
+    let m = triples_of(next, &mut next_triples);
+    if n > TRIPLE_NUMBERS {
+        return Came::Damaged;
+    }
+    if m > TRIPLE_NUMBERS {
+        return Came::Damaged;
+    }
+    if graph.len() < TRIPLES_AT {
+        return Came::Damaged;
+    }
+    if next.len() < TRIPLES_AT {
+        return Came::Damaged;
+    }
+    if lent > ROOM {
+        return Came::Damaged;
+    }
+    let mut out = [FILL; ROOM];
+    compared(dying_agrees(
+        u32_at(graph, 0),
+        u64_at(graph, 4),
+        &triples[..n],
+        u32_at(next, 0),
+        u64_at(next, 4),
+        &next_triples[..m],
+        lent,
+        result,
+        want,
+        &mut out,
+    ))
+}
+
+// The call that `op` names.
+pub fn ask(op: u8, input: &[u8], second: &[u8], lent: usize, result: u64, want: &[u8]) -> Came {
+    match op {
+        1 => ask_flow(input, lent, result, want),
+        2 => ask_live(input, lent, result, want),
+        3 => ask_rewrite(input, lent, result, want),
+        4 => ask_node(false, input, second, result),
+        5 => ask_node(true, input, second, result),
+        6 => ask_dying(input, second, lent, result, want),
+        7 => compared(check_agrees(input, result)),
+        _ => Came::Damaged,
+    }
+}

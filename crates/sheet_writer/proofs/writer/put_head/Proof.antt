@@ -1,0 +1,93 @@
+-- `sheet_writer::writer::put_head` meets its contract: twelve stores fill twelve bytes. Assumes nothing.
+use lib.ListN.{length-set}
+use Rattle.base.specs.WriteLaws.{fill}
+use Rattle.sheet_writer.specs.WriterLaws.{headOf}
+use native.Mathlib.Omega.{arith}
+use borrow.Author.Needs.{needs}
+use Rattle.sheet_writer.proofs.writer.put_head.Statement.{statement}
+use Rattle.sheet_writer.proofs.writer.put_head.Tie as tie
+
+slice-write-out : tie.Need-slice-write-out
+slice-write-out c = search needs
+
+slice-write-out-2 : tie.Need-slice-write-out-2
+slice-write-out-2 c = search needs
+
+cast-out : tie.Need-cast-out
+cast-out c = search needs
+
+slice-write-out-3 : tie.Need-slice-write-out-3
+slice-write-out-3 c = search needs
+
+cast-out-2 : tie.Need-cast-out-2
+cast-out-2 c = search needs
+
+slice-write-out-4 : tie.Need-slice-write-out-4
+slice-write-out-4 c = search needs
+
+cast-out-3 : tie.Need-cast-out-3
+cast-out-3 c = search needs
+
+slice-write-out-5 : tie.Need-slice-write-out-5
+slice-write-out-5 c = simp length-set (omega arith)
+
+cast-out-4 : tie.Need-cast-out-4
+cast-out-4 c = search needs
+
+slice-write-out-6 : tie.Need-slice-write-out-6
+slice-write-out-6 c = simp length-set (omega arith)
+
+cast-out-5 : tie.Need-cast-out-5
+cast-out-5 c = search needs
+
+slice-write-out-7 : tie.Need-slice-write-out-7
+slice-write-out-7 c = simp length-set (omega arith)
+
+cast-out-6 : tie.Need-cast-out-6
+cast-out-6 c = search needs
+
+slice-write-out-8 : tie.Need-slice-write-out-8
+slice-write-out-8 c = simp length-set (omega arith)
+
+slice-write-out-9 : tie.Need-slice-write-out-9
+slice-write-out-9 c = simp length-set (omega arith)
+
+slice-write-out-10 : tie.Need-slice-write-out-10
+slice-write-out-10 c = simp length-set (omega arith)
+
+slice-write-out-11 : tie.Need-slice-write-out-11
+slice-write-out-11 c = simp length-set (omega arith)
+
+slice-write-out-12 : tie.Need-slice-write-out-12
+slice-write-out-12 c = simp length-set (omega arith)
+
+same-length : tie.Need-same-length
+same-length c = simp length-set
+
+returns : tie.Need-returns
+returns c = fill (c .before .before .before .before .before .before .args .out .now) (headOf (c .before .before .before .before .before .before .args .r)) (c .before .before .before .before .before .before .pre)
+
+pub put-head-spec : {M : Type 1} → statement M
+put-head-spec =
+    tie.close
+    (tie.spec
+    slice-write-out
+    slice-write-out-2
+    cast-out
+    slice-write-out-3
+    cast-out-2
+    slice-write-out-4
+    cast-out-3
+    slice-write-out-5
+    cast-out-4
+    slice-write-out-6
+    cast-out-5
+    slice-write-out-7
+    cast-out-6
+    slice-write-out-8
+    slice-write-out-9
+    slice-write-out-10
+    slice-write-out-11
+    slice-write-out-12
+    same-length
+    returns)

@@ -1,0 +1,126 @@
+-- What checks 4 to 8 want of code, and that the code of an accepted sheet has it. Assumes nothing.
+use mathlib.Core.Path.{_≡_, refl, sym, ap, ap₂, _∙_, subst}
+use mathlib.Core.Bool.{Bool, true, cond, not}
+use mathlib.Core.List.{List}
+use mathlib.Core.Option.{Option, none, some}
+use Prim.Native.Nat.{ℕ, _+_, _-_, _*_, _≤_, _<_}
+use native.Mathlib.Omega.{arith}
+use borrow.Author.Tests.{lt-ltb}
+use lib.Dec.{ltb}
+use lib.ListN.{getD, drop, length, length-take, length-drop, List·getD-eq-default}
+use lib.Seq.{getD-take, getD-drop}
+use Rattle.stackless_bytecode.specs.declared.Bytecode.{Bytecode}
+use Rattle.base.specs.Sizes.{maxInstructions, blockRecords}
+use Rattle.base.specs.Refusals.{Answer, Accepted, refuse}
+use Rattle.base.specs.Lists.{gather, zeros, has}
+use Rattle.sheet.specs.Layout.{countOf, localsOf, recordBlocks, recordStart, decode, codeOf, instructionAt, recordAt}
+use Rattle.stackless_bytecode.specs.Kinds.{nop, at, fallsThrough, branchDests, labelOf}
+use Rattle.stackless_bytecode.specs.Successors.{labelOffset}
+use Rattle.sheet.specs.Checks.{recordOk, placeOk, localsOk, fresh, namesOk, checkCode, checkSheet, fits}
+use Rattle.base.specs.ListLaws.{in-has, gather-in, getD-in, in-getD, getD-tab}
+use Rattle.base.specs.JoinLaws.{by-lt}
+use Rattle.stackless_bytecode.specs.SuccessorLaws.{Sound, Unique, offset-label}
+use Rattle.base.specs.SearchLaws.{all-none, none-all}
+use Rattle.sheet.specs.CheckLaws.{clear, Clear, code-length, code-sound}
+use Rattle.sheet_writer.specs.EncodeLaws.{Encodes, Small, small-take, small-drop}
+use native.Mathlib.Nat.{zero-add}
+use Rattle.sheet.specs.AcceptLaws.{all-by, fresh-unique, unique-fresh, Heading, is-heading}
+use Rattle.sheet.specs.AcceptedLaws.{Bytes}
+
+pub accept : (num : ℕ) (found : Option ℕ) (rest : Answer) → found ≡ none → rest ≡ Accepted → refuse num found rest ≡ Accepted
+unfolding refuse
+accept num found rest f e = ap₂ (λ (x : Option ℕ) (y : Answer). refuse num x y) f e
+
+-- ---- what checks 4 to 8 want of code
+
+pub record Body (l : ℕ) (code : List Bytecode) : Type 0 where
+  pub some : 1 ≤ length code
+  pub few : length code ≤ maxInstructions
+  pub fits : (k : ℕ) → k < length code → recordOk (at code k) ≡ true
+  pub encodes : (k : ℕ) → k < length code → Encodes (at code k)
+  pub locals : (k : ℕ) → k < length code → localsOk l (at code k) ≡ true
+  pub unique : Unique code
+  pub sound : Sound code
+
+names-ok : (code : List Bytecode) → Sound code → (k : ℕ) → k < length code → namesOk (gather labelOf code) (at code k) ≡ true
+unfolding namesOk
+names-ok code sound k h =
+    all-by (λ l. has l (gather labelOf code)) (branchDests (at code k))
+    (λ l i. let o = sound .named k l h i in in-has l (gather labelOf code) (gather-in labelOf code (getD-in code (labelOffset code l) nop o) (offset-label code l o)))
+
+-- checks 5 to 8 accept it
+pub code-accepted : (l : ℕ) (code : List Bytecode) → Body l code → checkCode l code ≡ Accepted
+unfolding checkCode
+code-accepted l code b =
+    accept 5 _ _ (all-none (length code) 0 (λ k. localsOk l (at code k)) (λ j i h. b .locals j (omega arith)))
+    (accept 6 _ _ (all-none (length code) 0 (fresh code) (λ j l h. unique-fresh code (b .unique) j (omega arith)))
+    (accept 7 _ _ (all-none (length code) 0 (λ k. namesOk (gather labelOf code) (at code k)) (λ j l h. names-ok code (b .sound) j (omega arith)))
+    (accept 8 _ _ (all-none 1 (length code - 1) (λ k. not (fallsThrough (at code k))) (λ j l h. let s : j ≡ length code - 1 = omega arith in ap not (ap (λ (x : ℕ). fallsThrough (at code x)) s ∙ b .sound .closed))) refl)))
+
+-- ---- the code of an accepted sheet
+
+pub small-by : (xs : List ℕ) → ((i : ℕ) → i < length xs → getD xs i 0 < 256) → Small xs
+small-by xs h = record { each = λ x i. let p = in-getD xs x 0 i in subst (λ (y : ℕ). y < 256) (p .2) (h (p .0) (p .1)) }
+
+pub by-small : (xs : List ℕ) → Small xs → Bytes xs
+by-small xs s = record { each = λ i. by-lt i (length xs) (λ h. s .each (getD xs i 0) (getD-in xs i 0 h)) (λ h. omega (arith, List·getD-eq-default xs 0 {n = i} h)) }
+
+module _ (s : List ℕ) (bytes : Bytes s) (e : checkSheet s ≡ Accepted) where
+  checks : Clear s
+  checks = clear s e
+
+  pub heading : Heading s
+  heading = is-heading s (checks .three)
+
+  code-at : (k : ℕ) → k < length (codeOf s) → at (codeOf s) k ≡ decode (recordAt s k)
+  unfolding codeOf instructionAt
+  code-at k h = getD-tab (countOf s) 0 k (instructionAt s) nop (omega (arith, code-length s)) ∙ ap (instructionAt s) (zero-add k)
+
+  part-length : (k : ℕ) → k < length (codeOf s) → length (recordAt s k) ≡ 32
+  part-length k h =
+      length-take 32 (drop (recordStart k) s) ∙ (unfold recordBlocks in omega (arith, length-drop (recordStart k) s, heading .size, code-length s))
+
+  part-byte : (k i : ℕ) → i < 32 → getD (recordAt s k) i 0 < 256
+  part-byte k i h = subst (λ (x : ℕ). x < 256) (sym (getD-take 32 (drop (recordStart k) s) i 0 h ∙ getD-drop (recordStart k) s i 0)) (bytes .each (recordStart k + i))
+
+  record-encodes : (k : ℕ) → k < length (codeOf s) → Encodes (decode (recordAt s k))
+  unfolding decode
+  record-encodes k h =
+      let p = recordAt s k in
+      let small : Small p = small-by p (λ i g. part-byte k i (omega (arith, part-length k h))) in
+      record {
+        kind = part-byte k 0 (omega arith);
+        sub = part-byte k 1 (omega arith);
+        ndst = part-byte k 8 (omega arith);
+        nsrc = part-byte k 9 (omega arith);
+        flag = part-byte k 10 (omega arith);
+        abort = part-byte k 11 (omega arith);
+        dsts-small = small-take 8 (drop 12 p) (small-drop 12 p small);
+        srcs-small = small-take 8 (drop 20 p) (small-drop 20 p small);
+        attr = omega (arith, part-byte k 2 (omega arith), part-byte k 3 (omega arith));
+        one = omega (arith, part-byte k 4 (omega arith), part-byte k 5 (omega arith));
+        two = omega (arith, part-byte k 6 (omega arith), part-byte k 7 (omega arith));
+        payload = omega (arith, part-byte k 28 (omega arith), part-byte k 29 (omega arith), part-byte k 30 (omega arith), part-byte k 31 (omega arith));
+        dsts = length-take 8 (drop 12 p) ∙ (omega (arith, length-drop 12 p, part-length k h));
+        srcs = length-take 8 (drop 20 p) ∙ (omega (arith, length-drop 20 p, part-length k h));
+      }
+
+  record-fits : (k : ℕ) → k < length (codeOf s) → recordOk (decode (recordAt s k)) ≡ true
+  record-fits k h = sym (ap (λ (b : Bool). cond b (recordOk (decode (recordAt s k))) (zeros (recordAt s k))) (lt-ltb k (countOf s) (omega (arith, code-length s)))) ∙ placed
+    where
+      within : k < blockRecords * recordBlocks (countOf s)
+      within = unfold recordBlocks in omega (arith, code-length s)
+
+      placed : cond (ltb k (countOf s)) (recordOk (decode (recordAt s k))) (zeros (recordAt s k)) ≡ true
+      placed = unfold placeOk in none-all (blockRecords * recordBlocks (countOf s)) 0 (placeOk s) (checks .four) k (omega arith) (omega (arith, within))
+
+  pub accepted-body : Body (localsOf s) (codeOf s)
+  accepted-body = record {
+    some = omega (arith, code-length s, heading .some);
+    few = omega (arith, code-length s, heading .few);
+    fits = λ k h. ap recordOk (code-at k h) ∙ record-fits k h;
+    encodes = λ k h. subst Encodes (sym (code-at k h)) (record-encodes k h);
+    locals = λ k h. none-all (length (codeOf s)) 0 (λ j. localsOk (localsOf s) (at (codeOf s) j)) (checks .five) k (omega arith) (omega arith);
+    unique = fresh-unique (codeOf s) (λ k h. none-all (length (codeOf s)) 0 (fresh (codeOf s)) (checks .six) k (omega arith) (omega arith));
+    sound = code-sound s e;
+  }

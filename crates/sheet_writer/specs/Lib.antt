@@ -1,0 +1,7 @@
+pub mod EncodeLaws
+pub mod WriterLaws
+pub mod BodyLaws
+pub mod AgainLaws
+pub mod RecordsLaws
+pub mod SheetLaws
+pub mod WholeLaws
