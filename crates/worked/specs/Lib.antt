@@ -2,3 +2,4 @@ pub mod Samples
 pub mod Opened
 pub mod Worked
 pub mod Readings
+pub mod Pages
