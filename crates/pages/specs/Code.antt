@@ -1,7 +1,7 @@
 -- A sheet's code as text: its heading, and a line for each instruction. Assumes nothing.
 use Prim.Native.Nat.{ℕ}
 use mathlib.Core.Bool.{cond, _||_}
-use mathlib.Core.List.{List, [], _∷_, _++_}
+use mathlib.Core.List.{List, [], _++_}
 use lib.Dec.{eqb}
 use lib.ListN.{length}
 use Rattle.base.specs.Sizes.{maxLocals}

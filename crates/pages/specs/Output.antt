@@ -1,13 +1,13 @@
 -- A text written into a lent slice from a place on, as far as the slice goes. Assumes nothing.
 use mathlib.Core.Path.{_≡_, refl, sym, ap, _∙_, subst}
-use mathlib.Core.Bool.{true, false, cond}
+use mathlib.Core.Bool.{cond}
 use mathlib.Core.List.{List, [], _∷_, _++_}
 use Prim.Native.Nat.{ℕ, suc, _+_, _≤_, _<_}
 use native.Mathlib.Numerals.{add-one}
 use native.Mathlib.Omega.{arith}
 use borrow.Author.Tests.{lt-ltb, le-ltb}
 use lib.Dec.{ltb}
-use lib.ListN.{length, take, drop, set, length-set, length-append, take-append-drop}
+use lib.ListN.{length, drop, set, length-set, take-append-drop}
 use native.Mathlib.Nat.{zero-add, add-zero}
 use Rattle.base.specs.JoinLaws.{by-lt}
 use Rattle.base.specs.PutLaws.{Put, put-one, put-then, put-front}

@@ -1,15 +1,14 @@
 -- The page of a sheet: its code, the blocks and where they lead, the live sets, and the rewritten code. Assumes nothing.
 use Prim.Native.Nat.{ℕ, _*_}
-use mathlib.Core.List.{List, [], _∷_, _++_}
+use mathlib.Core.List.{List, _∷_, _++_}
 use lib.ListN.{getD, length}
 use Rattle.base.specs.Lists.{joins}
 use Rattle.base.specs.Bytes.{part}
 use Rattle.base.specs.Refusals.{Answer, Accepted, Refused}
-use Rattle.stackless_bytecode.specs.declared.Bytecode.{Bytecode}
 use Rattle.sheet.specs.Layout.{localsOf, codeOf}
 use Rattle.sheet.specs.Checks.{checkSheet}
 use Rattle.stackless_control_flow_graph.specs.Blocks.{blocksOf, flowTable}
-use Rattle.livevar_analysis.specs.Analysis.{LiveVarInfo, Analyzed, analyze}
+use Rattle.livevar_analysis.specs.Analysis.{LiveVarInfo, analyze}
 use Rattle.livevar_transform.specs.Rewrite.{infoAt, Written, rewritten}
 use Rattle.listing.specs.Lines.{decimal, hex}
 use Rattle.listing.specs.Text.{refusedText}

@@ -9,7 +9,7 @@ use lib.ListN.{length, getD, take, drop, length-append, length-drop}
 use lib.Seq.{take-append-le, drop-append-le, take-at, take-all, length-take-le}
 use Rattle.base.specs.Sizes.{setBytes, maxInstructions, maxBytes}
 use Rattle.base.specs.declared.Refusal.{Refusal}
-use Rattle.base.specs.Lists.{tab, joins}
+use Rattle.base.specs.Lists.{joins}
 use Rattle.base.specs.ListLaws.{getD-tab}
 use Rattle.base.specs.Bytes.{number, part}
 use Rattle.base.specs.Refusals.{Answer, Accepted, Refused, numberOf, placeOf, Reply, No, Done, Result, resultOf, refusedResult, left}

@@ -9,12 +9,11 @@ use borrow.Author.Tests.{ltb-true}
 use lib.Dec.{eqb, ltb}
 use lib.ListN.{length, getD, take, drop, length-append, length-take}
 use Rattle.base.specs.Sizes.{setBytes, listPlaces, maxLocals, maxInstructions}
-use Rattle.base.specs.Lists.{tab, joins, keep, gather}
+use Rattle.base.specs.Lists.{joins, keep, gather}
 use Rattle.base.specs.ListLaws.{by-test, and-true, getD-tab, length-tab}
 use Rattle.base.specs.Bytes.{part}
 use Rattle.base.specs.Refusals.{Answer, Accepted, Refused}
 use Rattle.dataflow_domains.specs.Mask.{holds}
-use Rattle.dataflow_domains.specs.Members.{members}
 use Rattle.stackless_bytecode.specs.declared.Bytecode.{Bytecode}
 use Rattle.stackless_bytecode.specs.Kinds.{nop, at, dstsOf, srcsOf}
 use Rattle.sheet.specs.Layout.{localsOf, userLocalsOf, parametersOf, refsOf, countOf, recordAt, decode, instructionAt, codeOf}

@@ -13,15 +13,10 @@ use crate::output::put_bytes;
 use crate::output::put_decimal;
 use crate::output::put_mark;
 use crate::output::put_number;
+use crate::output::wide16;
 use base::MAX_INSTRUCTIONS;
 use stackless_control_flow_graph::Flow;
 use stackless_control_flow_graph::forward::flow;
-
-fn wide16(x: u16) -> u32
-    ensures { λ r. ⌜ r ≡ x ⌝ }
-{
-    x as u32
-}
 
 fn index(x: u16) -> usize
     ensures { λ r. ⌜ r ≡ x ⌝ }

@@ -17,6 +17,8 @@ use crate::output::put_listed;
 use crate::output::put_mark;
 use crate::output::put_number;
 use crate::output::put_word;
+use crate::output::wide16;
+use crate::output::wide32;
 use base::MAX_LOCALS;
 use base::SET_BYTES;
 use dataflow_domains::LiveVarState;
@@ -38,18 +40,6 @@ fn wide8(x: u8) -> usize
     ensures { λ r. ⌜ r ≡ x ⌝ }
 {
     x as usize
-}
-
-fn wide16(x: u16) -> u32
-    ensures { λ r. ⌜ r ≡ x ⌝ }
-{
-    x as u32
-}
-
-fn wide32(x: u8) -> u32
-    ensures { λ r. ⌜ r ≡ x ⌝ }
-{
-    x as u32
 }
 
 // What an instruction of this kind begins with.

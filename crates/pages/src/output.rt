@@ -8,7 +8,13 @@ ghost use Rattle.pages.specs.WordLaws.{shown, leftAfter, endsAt};
 ghost use Rattle.pages.specs.Output.{Wrote};
 use listing::numbers;
 
-fn wide(x: u8) -> u32
+pub fn wide32(x: u8) -> u32
+    ensures { λ r. ⌜ r ≡ x ⌝ }
+{
+    x as u32
+}
+
+pub fn wide16(x: u16) -> u32
     ensures { λ r. ⌜ r ≡ x ⌝ }
 {
     x as u32
@@ -121,7 +127,7 @@ pub fn put_mark(word: &[u8], x: u32, out: &mut [u8], at: usize) -> usize
 fn put_between(before: &[u8], x: u8, behind: &[u8], out: &mut [u8], at: usize) -> usize
     ensures { λ r. ⌜ Wrote (now (out .entry)) at (said (now (before .entry)) x ++ now (behind .entry)) (now (out .exit)) r ⌝ }
 {
-    let e = put_number(before, wide(x), out, at);
+    let e = put_number(before, wide32(x), out, at);
     put_bytes(behind, out, e)
 }
 

@@ -15,6 +15,7 @@ use crate::blocks::put_flow;
 use crate::code::put_code;
 use crate::output::put_bytes;
 use crate::output::put_number;
+use crate::output::wide16;
 use crate::sets::put_live;
 use base::MAX_BYTES;
 use base::MAX_INSTRUCTIONS;
@@ -36,12 +37,6 @@ const LINE_BYTES: usize = 150 + 40 + 2 * (1 + 2 * SET_BYTES + LOCALS_BYTES);
 
 // Room for the longest page.
 pub const PAGE_BYTES: usize = 2 * CODE_BYTES + MAX_INSTRUCTIONS * LINE_BYTES + 100;
-
-fn wide16(x: u16) -> u32
-    ensures { λ r. ⌜ r ≡ x ⌝ }
-{
-    x as u32
-}
 
 // A refusal's line.
 fn put_refused(number: u16, place: u16, out: &mut [u8], at: usize) -> usize

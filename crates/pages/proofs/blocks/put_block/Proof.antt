@@ -1,15 +1,9 @@
 -- `pages::blocks::put_block` meets its contract. Assumes nothing.
 use borrow.Author.Needs.{needs}
-use native.Mathlib.Omega.{arith}
 use Rattle.pages.specs.Output.{wrote-as, wrote-then}
 use Rattle.pages.specs.PageLaws.{block-is}
 use Rattle.pages.proofs.blocks.put_block.Statement.{statement}
 use Rattle.pages.proofs.blocks.put_block.Tie as tie
-use Rattle.pages.proofs.blocks.put_block.Reads as reads
-use Rattle.pages.proofs.blocks.put_block.Lts as lts
-use Rattle.pages.proofs.blocks.put_bounds.Reads as put-bounds-reads
-use Rattle.pages.proofs.blocks.put_leads.Reads as put-leads-reads
-use Rattle.pages.proofs.output.put_bytes.Reads as put-bytes-reads
 
 put-bounds-requires : tie.Need-put-bounds-requires
 put-bounds-requires c κs = search needs

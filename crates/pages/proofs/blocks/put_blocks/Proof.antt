@@ -1,19 +1,12 @@
 -- `pages::blocks::put_blocks` meets its contract. The lines of the first i blocks are written. Assumes nothing.
 use borrow.Author.Needs.{needs}
 use native.Mathlib.Omega.{arith}
-use mathlib.Core.Path.{_≡_, sym, _∙_}
-use Prim.Native.Nat.{ℕ, _-_, _*_, _≤_}
-use lib.ListN.{length}
+use mathlib.Core.Path.{_≡_}
+use Prim.Native.Nat.{_-_, _≤_}
 use Rattle.pages.specs.Output.{Wrote, wrote-as, wrote-none, wrote-then, wrote-length}
 use Rattle.pages.specs.PageLaws.{blockLines, blocks-none, blocks-more, blocks-all}
 use Rattle.pages.proofs.blocks.put_blocks.Statement.{statement}
 use Rattle.pages.proofs.blocks.put_blocks.Tie as tie
-use Rattle.pages.proofs.blocks.put_blocks.Reads as reads
-use Rattle.pages.proofs.blocks.put_blocks.Lts as lts
-use Rattle.pages.proofs.blocks.index.Reads as index-reads
-use Rattle.pages.proofs.blocks.put_block.Reads as put-block-reads
-use Rattle.pages.proofs.blocks.put_total.Reads as put-total-reads
-use Rattle.pages.proofs.blocks.wide16.Reads as wide16-reads
 
 abbrev Inv-loop : tie.InvT-loop
 Inv-loop table m out₀ at n e₀ i₀ t9 out e i = (i ≤ n) × Wrote out₀ at (blockLines table i) out e

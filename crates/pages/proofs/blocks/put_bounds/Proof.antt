@@ -1,6 +1,5 @@
 -- `pages::blocks::put_bounds` meets its contract. Assumes nothing.
 use borrow.Author.Needs.{needs}
-use native.Mathlib.Omega.{arith}
 use Prim.Native.Nat.{ℕ}
 use Rattle.pages.specs.Output.{wrote-as, wrote-by, wrote-then}
 use Rattle.pages.specs.Words.{ascii, said}
@@ -8,11 +7,6 @@ use Rattle.listing.specs.Lines.{decimal}
 use Rattle.pages.specs.PageLaws.{bounds-is}
 use Rattle.pages.proofs.blocks.put_bounds.Statement.{statement}
 use Rattle.pages.proofs.blocks.put_bounds.Tie as tie
-use Rattle.pages.proofs.blocks.put_bounds.Reads as reads
-use Rattle.pages.proofs.blocks.put_bounds.Lts as lts
-use Rattle.pages.proofs.blocks.wide16.Reads as wide16-reads
-use Rattle.pages.proofs.output.put_decimal.Reads as put-decimal-reads
-use Rattle.pages.proofs.output.put_number.Reads as put-number-reads
 
 shared-slice-read-wide16 : tie.Need-shared-slice-read-wide16
 shared-slice-read-wide16 c = search needs

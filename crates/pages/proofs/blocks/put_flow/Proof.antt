@@ -1,6 +1,5 @@
 -- `pages::blocks::put_flow` meets its contract. Assumes nothing.
 use borrow.Author.Needs.{needs}
-use native.Mathlib.Omega.{arith}
 use mathlib.Core.Path.{_≡_, sym, ap, _∙_}
 use mathlib.Core.List.{List}
 use Prim.Native.Nat.{ℕ, _*_}
@@ -11,10 +10,6 @@ use Rattle.pages.specs.Output.{wrote-as}
 use Rattle.pages.specs.PageLaws.{flow-never, flow-written}
 use Rattle.pages.proofs.blocks.put_flow.Statement.{statement}
 use Rattle.pages.proofs.blocks.put_flow.Tie as tie
-use Rattle.pages.proofs.blocks.put_flow.Reads as reads
-use Rattle.pages.proofs.blocks.put_flow.Lts as lts
-use Rattle.pages.proofs.blocks.put_blocks.Reads as put-blocks-reads
-use Rattle.stackless_control_flow_graph.proofs.forward.flow.Reads as flow-reads
 
 abbrev blank : List ℕ
 blank = replicate (6 * maxInstructions) 0

@@ -1,17 +1,11 @@
 -- `pages::blocks::put_leads` meets its contract. Assumes nothing.
 use borrow.Author.Needs.{needs}
-use native.Mathlib.Omega.{arith}
 use Prim.Native.Nat.{ℕ}
 use Rattle.pages.specs.Output.{wrote-as, wrote-by, wrote-then}
 use Rattle.pages.specs.Words.{ascii, marked}
 use Rattle.pages.specs.PageLaws.{leads-is}
 use Rattle.pages.proofs.blocks.put_leads.Statement.{statement}
 use Rattle.pages.proofs.blocks.put_leads.Tie as tie
-use Rattle.pages.proofs.blocks.put_leads.Reads as reads
-use Rattle.pages.proofs.blocks.put_leads.Lts as lts
-use Rattle.pages.proofs.blocks.wide16.Reads as wide16-reads
-use Rattle.pages.proofs.output.put_bytes.Reads as put-bytes-reads
-use Rattle.pages.proofs.output.put_mark.Reads as put-mark-reads
 
 slice-aggregate-put-bytes : tie.Need-slice-aggregate-put-bytes
 slice-aggregate-put-bytes c = search needs

@@ -1,14 +1,9 @@
 -- `pages::blocks::put_total` meets its contract. Assumes nothing.
 use borrow.Author.Needs.{needs}
-use native.Mathlib.Omega.{arith}
 use Rattle.pages.specs.Output.{wrote-as, wrote-then}
 use Rattle.pages.specs.PageLaws.{total-is}
 use Rattle.pages.proofs.blocks.put_total.Statement.{statement}
 use Rattle.pages.proofs.blocks.put_total.Tie as tie
-use Rattle.pages.proofs.blocks.put_total.Reads as reads
-use Rattle.pages.proofs.blocks.put_total.Lts as lts
-use Rattle.pages.proofs.output.put_bytes.Reads as put-bytes-reads
-use Rattle.pages.proofs.output.put_number.Reads as put-number-reads
 
 put-number-requires : tie.Need-put-number-requires
 put-number-requires c κs = search needs

@@ -1,17 +1,11 @@
 -- `pages::code::put_aborting` meets its contract. Assumes nothing.
 use borrow.Author.Needs.{needs}
-use native.Mathlib.Omega.{arith}
 use Prim.Native.Nat.{ℕ}
 use Rattle.pages.specs.Output.{wrote-as, wrote-by, wrote-none, wrote-then}
 use Rattle.pages.specs.Words.{ascii, said}
 use Rattle.pages.specs.CodeLaws.{aborting-some, aborting-none}
 use Rattle.pages.proofs.code.put_aborting.Statement.{statement}
 use Rattle.pages.proofs.code.put_aborting.Tie as tie
-use Rattle.pages.proofs.code.put_aborting.Reads as reads
-use Rattle.pages.proofs.code.put_aborting.Lts as lts
-use Rattle.pages.proofs.code.wide16.Reads as wide16-reads
-use Rattle.pages.proofs.code.wide32.Reads as wide32-reads
-use Rattle.pages.proofs.output.put_number.Reads as put-number-reads
 
 slice-aggregate-put-number : tie.Need-slice-aggregate-put-number
 slice-aggregate-put-number c = search needs

@@ -1,8 +1,8 @@
 -- `pages::code::put_code` meets its contract. The first k lines are written. Assumes nothing.
 use borrow.Author.Needs.{needs}
 use native.Mathlib.Omega.{arith}
-use mathlib.Core.Path.{_≡_, sym, _∙_}
-use Prim.Native.Nat.{ℕ, _-_, _≤_}
+use mathlib.Core.Path.{_≡_, _∙_}
+use Prim.Native.Nat.{_-_, _≤_}
 use lib.ListN.{length}
 use Rattle.sheet.specs.Layout.{codeOf}
 use Rattle.livevar_analysis.specs.LookupLaws.{count-of}
@@ -11,13 +11,6 @@ use Rattle.pages.specs.Output.{Wrote, wrote-as, wrote-none, wrote-then, 
 use Rattle.pages.specs.CodeLaws.{codeLines, lines-none, lines-more, lines-all, heading-there}
 use Rattle.pages.proofs.code.put_code.Statement.{statement}
 use Rattle.pages.proofs.code.put_code.Tie as tie
-use Rattle.pages.proofs.code.put_code.Reads as reads
-use Rattle.pages.proofs.code.put_code.Lts as lts
-use Rattle.pages.proofs.code.put_code_line.Reads as put-code-line-reads
-use Rattle.pages.proofs.code.put_heading.Reads as put-heading-reads
-use Rattle.pages.proofs.code.wide16.Reads as wide16-reads
-use Rattle.sheet.proofs.reader.instruction_at.Reads as instruction-at-reads
-use Rattle.sheet.proofs.reader.u16_at.Reads as u16-at-reads
 
 abbrev Inv-loop : tie.InvT-loop
 Inv-loop s out₀ at n e₀ k₀ out e k = (k ≤ n) × (n ≡ length (codeOf s)) × Wrote out₀ e₀ (codeLines s k) out e

@@ -1,16 +1,9 @@
 -- `pages::code::put_code_line` meets its contract. Assumes nothing.
 use borrow.Author.Needs.{needs}
-use native.Mathlib.Omega.{arith}
 use Rattle.pages.specs.Output.{wrote-as, wrote-then}
 use Rattle.pages.specs.CodeLaws.{line-is}
 use Rattle.pages.proofs.code.put_code_line.Statement.{statement}
 use Rattle.pages.proofs.code.put_code_line.Tie as tie
-use Rattle.pages.proofs.code.put_code_line.Reads as reads
-use Rattle.pages.proofs.code.put_code_line.Lts as lts
-use Rattle.pages.proofs.code.put_does.Reads as put-does-reads
-use Rattle.pages.proofs.code.put_takes.Reads as put-takes-reads
-use Rattle.pages.proofs.output.put_bytes.Reads as put-bytes-reads
-use Rattle.pages.proofs.output.put_decimal.Reads as put-decimal-reads
 
 put-decimal-requires : tie.Need-put-decimal-requires
 put-decimal-requires c κs = search needs

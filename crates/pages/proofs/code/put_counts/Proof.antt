@@ -1,6 +1,5 @@
 -- `pages::code::put_counts` meets its contract. Assumes nothing.
 use borrow.Author.Needs.{needs}
-use native.Mathlib.Omega.{arith}
 use mathlib.Core.Path.{_∙_}
 use Prim.Native.Nat.{ℕ}
 use Rattle.pages.specs.Output.{wrote-as, wrote-by, wrote-then}
@@ -8,12 +7,6 @@ use Rattle.pages.specs.Words.{ascii, said}
 use Rattle.pages.specs.CodeLaws.{counts-is}
 use Rattle.pages.proofs.code.put_counts.Statement.{statement}
 use Rattle.pages.proofs.code.put_counts.Tie as tie
-use Rattle.pages.proofs.code.put_counts.Reads as reads
-use Rattle.pages.proofs.code.put_counts.Lts as lts
-use Rattle.pages.proofs.code.wide16.Reads as wide16-reads
-use Rattle.pages.proofs.output.put_bytes.Reads as put-bytes-reads
-use Rattle.pages.proofs.output.put_number.Reads as put-number-reads
-use Rattle.sheet.proofs.reader.u16_at.Reads as u16-at-reads
 
 slice-aggregate-put-number : tie.Need-slice-aggregate-put-number
 slice-aggregate-put-number c = search needs

@@ -1,7 +1,6 @@
 -- `pages::code::put_destinations` meets its contract. Assumes nothing.
 use borrow.Author.Needs.{needs}
-use native.Mathlib.Omega.{arith}
-use mathlib.Core.Path.{_≡_, sym, _∙_}
+use mathlib.Core.Path.{sym, _∙_}
 use Prim.Native.Nat.{ℕ}
 use lib.ListN.{take}
 use Rattle.pages.specs.Output.{wrote-as, wrote-by, wrote-then}
@@ -9,11 +8,6 @@ use Rattle.pages.specs.Words.{ascii, listed}
 use Rattle.pages.specs.CodeLaws.{destinations-none, destinations-some}
 use Rattle.pages.proofs.code.put_destinations.Statement.{statement}
 use Rattle.pages.proofs.code.put_destinations.Tie as tie
-use Rattle.pages.proofs.code.put_destinations.Reads as reads
-use Rattle.pages.proofs.code.put_destinations.Lts as lts
-use Rattle.pages.proofs.code.wide8.Reads as wide8-reads
-use Rattle.pages.proofs.output.put_bytes.Reads as put-bytes-reads
-use Rattle.pages.proofs.output.put_listed.Reads as put-listed-reads
 
 wide8-requires : tie.Need-wide8-requires
 wide8-requires c κs = search needs

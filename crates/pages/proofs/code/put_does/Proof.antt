@@ -1,16 +1,9 @@
 -- `pages::code::put_does` meets its contract. Assumes nothing.
 use borrow.Author.Needs.{needs}
-use native.Mathlib.Omega.{arith}
 use Rattle.pages.specs.Output.{wrote-as, wrote-then}
 use Rattle.pages.specs.CodeLaws.{does-is}
 use Rattle.pages.proofs.code.put_does.Statement.{statement}
 use Rattle.pages.proofs.code.put_does.Tie as tie
-use Rattle.pages.proofs.code.put_does.Reads as reads
-use Rattle.pages.proofs.code.put_does.Lts as lts
-use Rattle.pages.proofs.code.put_destinations.Reads as put-destinations-reads
-use Rattle.pages.proofs.code.put_labels.Reads as put-labels-reads
-use Rattle.pages.proofs.code.put_name.Reads as put-name-reads
-use Rattle.pages.proofs.code.put_verb.Reads as put-verb-reads
 
 put-destinations-requires : tie.Need-put-destinations-requires
 put-destinations-requires c κs = search needs

@@ -1,15 +1,9 @@
 -- `pages::code::put_heading` meets its contract. Assumes nothing.
 use borrow.Author.Needs.{needs}
-use native.Mathlib.Omega.{arith}
 use Rattle.pages.specs.Output.{wrote-as, wrote-then}
 use Rattle.pages.specs.CodeLaws.{heading-is}
 use Rattle.pages.proofs.code.put_heading.Statement.{statement}
 use Rattle.pages.proofs.code.put_heading.Tie as tie
-use Rattle.pages.proofs.code.put_heading.Reads as reads
-use Rattle.pages.proofs.code.put_heading.Lts as lts
-use Rattle.pages.proofs.code.put_counts.Reads as put-counts-reads
-use Rattle.pages.proofs.code.put_locals.Reads as put-locals-reads
-use Rattle.pages.proofs.output.put_bytes.Reads as put-bytes-reads
 
 put-counts-requires : tie.Need-put-counts-requires
 put-counts-requires c κs = search needs

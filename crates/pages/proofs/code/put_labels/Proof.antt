@@ -1,17 +1,11 @@
 -- `pages::code::put_labels` meets its contract. Assumes nothing.
 use borrow.Author.Needs.{needs}
-use native.Mathlib.Omega.{arith}
 use Prim.Native.Nat.{ℕ}
 use Rattle.pages.specs.Output.{wrote-as, wrote-by, wrote-none}
 use Rattle.pages.specs.Words.{ascii, said}
 use Rattle.pages.specs.CodeLaws.{labels-4, labels-5, labels-6, labels-none}
 use Rattle.pages.proofs.code.put_labels.Statement.{statement}
 use Rattle.pages.proofs.code.put_labels.Tie as tie
-use Rattle.pages.proofs.code.put_labels.Reads as reads
-use Rattle.pages.proofs.code.put_labels.Lts as lts
-use Rattle.pages.proofs.code.put_branch.Reads as put-branch-reads
-use Rattle.pages.proofs.code.wide16.Reads as wide16-reads
-use Rattle.pages.proofs.output.put_number.Reads as put-number-reads
 
 put-branch-requires : tie.Need-put-branch-requires
 put-branch-requires c κs = search needs

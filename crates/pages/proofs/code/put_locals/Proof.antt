@@ -1,22 +1,14 @@
 -- `pages::code::put_locals` meets its contract. The locals below i are written. Assumes nothing.
 use borrow.Author.Needs.{needs}
 use native.Mathlib.Omega.{arith}
-use mathlib.Core.Path.{_≡_, sym, ap, _∙_}
-use Prim.Native.Nat.{ℕ, _-_, _≤_}
-use lib.ListN.{length}
+use mathlib.Core.Path.{_≡_, sym}
+use Prim.Native.Nat.{_-_, _≤_}
 use Rattle.base.specs.Sizes.{maxLocals}
 use Rattle.base.specs.Bytes.{number}
-use Rattle.dataflow_domains.specs.Sets.{mask}
-use Rattle.pages.specs.Output.{Wrote, wrote-as, wrote-by, wrote-none, wrote-then, wrote-length}
+use Rattle.pages.specs.Output.{Wrote, wrote-as, wrote-none, wrote-then, wrote-length}
 use Rattle.pages.specs.CodeLaws.{localsBelow, below-none, below-more, below-all}
 use Rattle.pages.proofs.code.put_locals.Statement.{statement}
 use Rattle.pages.proofs.code.put_locals.Tie as tie
-use Rattle.pages.proofs.code.put_locals.Reads as reads
-use Rattle.pages.proofs.code.put_locals.Lts as lts
-use Rattle.dataflow_domains.proofs.LiveVarState.has.Reads as has-reads
-use Rattle.dataflow_domains.proofs.LiveVarState.load_bytes.Reads as load-bytes-reads
-use Rattle.pages.proofs.code.put_local.Reads as put-local-reads
-use Rattle.pages.proofs.code.wide8.Reads as wide8-reads
 
 abbrev Inv-loop : tie.InvT-loop
 Inv-loop p out₀ at set i₀ e₀ out i e = (i ≤ maxLocals) × Wrote out₀ at (localsBelow i (number p)) out e

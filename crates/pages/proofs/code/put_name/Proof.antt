@@ -1,6 +1,5 @@
 -- `pages::code::put_name` meets its contract. Assumes nothing.
 use borrow.Author.Needs.{needs}
-use native.Mathlib.Omega.{arith}
 use mathlib.Core.Path.{ap, _∙_}
 use Prim.Native.Nat.{ℕ}
 use Rattle.pages.specs.Output.{wrote-as, wrote-by, wrote-none}
@@ -10,10 +9,6 @@ use Rattle.pages.specs.WordLaws.{word-none}
 use Rattle.pages.specs.CodeLaws.{names-0, names-1, names-3, names-11, names-none}
 use Rattle.pages.proofs.code.put_name.Statement.{statement}
 use Rattle.pages.proofs.code.put_name.Tie as tie
-use Rattle.pages.proofs.code.put_name.Reads as reads
-use Rattle.pages.proofs.code.put_name.Lts as lts
-use Rattle.pages.proofs.code.wide8.Reads as wide8-reads
-use Rattle.pages.proofs.output.put_word.Reads as put-word-reads
 
 slice-aggregate-put-word : tie.Need-slice-aggregate-put-word
 slice-aggregate-put-word c = search needs

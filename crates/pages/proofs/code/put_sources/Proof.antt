@@ -1,6 +1,5 @@
 -- `pages::code::put_sources` meets its contract. Assumes nothing.
 use borrow.Author.Needs.{needs}
-use native.Mathlib.Omega.{arith}
 use Prim.Native.Nat.{ℕ}
 use lib.ListN.{take}
 use mathlib.Core.List.{[]}
@@ -9,10 +8,6 @@ use Rattle.pages.specs.Words.{ascii, listed}
 use Rattle.pages.specs.CodeLaws.{sources-is}
 use Rattle.pages.proofs.code.put_sources.Statement.{statement}
 use Rattle.pages.proofs.code.put_sources.Tie as tie
-use Rattle.pages.proofs.code.put_sources.Reads as reads
-use Rattle.pages.proofs.code.put_sources.Lts as lts
-use Rattle.pages.proofs.code.wide8.Reads as wide8-reads
-use Rattle.pages.proofs.output.put_listed.Reads as put-listed-reads
 
 slice-aggregate-put-listed : tie.Need-slice-aggregate-put-listed
 slice-aggregate-put-listed c = search needs

@@ -1,18 +1,11 @@
 -- `pages::code::put_takes` meets its contract. Assumes nothing.
 use borrow.Author.Needs.{needs}
-use native.Mathlib.Omega.{arith}
 use Prim.Native.Nat.{ℕ}
 use Rattle.pages.specs.Output.{wrote-as, wrote-by, wrote-then}
 use Rattle.pages.specs.Words.{ascii, marked}
 use Rattle.pages.specs.CodeLaws.{takes-is}
 use Rattle.pages.proofs.code.put_takes.Statement.{statement}
 use Rattle.pages.proofs.code.put_takes.Tie as tie
-use Rattle.pages.proofs.code.put_takes.Reads as reads
-use Rattle.pages.proofs.code.put_takes.Lts as lts
-use Rattle.pages.proofs.code.put_aborting.Reads as put-aborting-reads
-use Rattle.pages.proofs.code.put_sources.Reads as put-sources-reads
-use Rattle.pages.proofs.code.wide16.Reads as wide16-reads
-use Rattle.pages.proofs.output.put_mark.Reads as put-mark-reads
 
 put-sources-requires : tie.Need-put-sources-requires
 put-sources-requires c κs = search needs

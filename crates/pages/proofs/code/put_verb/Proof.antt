@@ -1,16 +1,11 @@
 -- `pages::code::put_verb` meets its contract. Assumes nothing.
 use borrow.Author.Needs.{needs}
-use native.Mathlib.Omega.{arith}
 use Prim.Native.Nat.{ℕ}
 use Rattle.pages.specs.Output.{wrote-by}
 use Rattle.pages.specs.Words.{word}
 use Rattle.pages.specs.Code.{verbs}
 use Rattle.pages.proofs.code.put_verb.Statement.{statement}
 use Rattle.pages.proofs.code.put_verb.Tie as tie
-use Rattle.pages.proofs.code.put_verb.Reads as reads
-use Rattle.pages.proofs.code.put_verb.Lts as lts
-use Rattle.pages.proofs.code.wide8.Reads as wide8-reads
-use Rattle.pages.proofs.output.put_word.Reads as put-word-reads
 
 slice-aggregate-put-word : tie.Need-slice-aggregate-put-word
 slice-aggregate-put-word c = search needs

@@ -1,11 +1,7 @@
 -- `pages::output::ends` meets its contract. Assumes nothing.
-use borrow.Author.Needs.{needs}
-use native.Mathlib.Omega.{arith}
 use Rattle.pages.specs.WordLaws.{ends-here, ends-not}
 use Rattle.pages.proofs.output.ends.Statement.{statement}
 use Rattle.pages.proofs.output.ends.Tie as tie
-use Rattle.pages.proofs.output.ends.Reads as reads
-use Rattle.pages.proofs.output.ends.Lts as lts
 
 returns : tie.Need-returns
 returns c = ends-here _ _ (c .if1 .taken)

@@ -6,8 +6,6 @@ use Prim.Native.Nat.{_-_}
 use Rattle.pages.specs.WordLaws.{left-bar, left-on}
 use Rattle.pages.proofs.output.left_after.Statement.{statement}
 use Rattle.pages.proofs.output.left_after.Tie as tie
-use Rattle.pages.proofs.output.left_after.Reads as reads
-use Rattle.pages.proofs.output.left_after.Lts as lts
 
 returns : tie.Need-returns
 returns c = let z : 0 ≡ c .before .before .args .left - 1 = omega arith in z ∙ left-bar _ _ (c .before .if1 .taken)

@@ -1,17 +1,12 @@
 -- `pages::output::put_bytes` meets its contract. What is left to write are the bytes from i on. Assumes nothing.
 use borrow.Author.Needs.{needs}
 use native.Mathlib.Omega.{arith}
-use mathlib.Core.Path.{_≡_, sym, ap, _∙_}
-use mathlib.Core.List.{List, [], _∷_, _++_}
-use Prim.Native.Nat.{ℕ, _+_, _-_, _≤_}
+use Prim.Native.Nat.{_-_, _≤_}
 use lib.ListN.{length, drop}
 use Rattle.pages.specs.Output.{Goes, goes-start, goes-as, goes-on, goes-end, goes-length}
 use Rattle.pages.specs.WordLaws.{drop-one, drop-past}
 use Rattle.pages.proofs.output.put_bytes.Statement.{statement}
 use Rattle.pages.proofs.output.put_bytes.Tie as tie
-use Rattle.pages.proofs.output.put_bytes.Reads as reads
-use Rattle.pages.proofs.output.put_bytes.Lts as lts
-use Rattle.pages.proofs.output.put_byte.Reads as put-byte-reads
 
 abbrev Inv-loop : tie.InvT-loop
 Inv-loop s out₀ at i₀ e₀ out i e = (i ≤ length s) × Goes out₀ at s out e (drop i s)

@@ -6,10 +6,6 @@ use Rattle.pages.specs.Output.{wrote-as}
 use Rattle.pages.specs.WordLaws.{put-digits, digits-long}
 use Rattle.pages.proofs.output.put_decimal.Statement.{statement}
 use Rattle.pages.proofs.output.put_decimal.Tie as tie
-use Rattle.pages.proofs.output.put_decimal.Reads as reads
-use Rattle.pages.proofs.output.put_decimal.Lts as lts
-use Rattle.listing.proofs.numbers.put_decimal.Reads as put-decimal-reads
-use Rattle.pages.proofs.output.put_bytes.Reads as put-bytes-reads
 
 slice-aggregate-put-decimal : tie.Need-slice-aggregate-put-decimal
 slice-aggregate-put-decimal c = search needs

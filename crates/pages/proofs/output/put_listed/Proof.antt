@@ -1,7 +1,7 @@
 -- `pages::output::put_listed` meets its contract. The first i numbers are written. Assumes nothing.
 use borrow.Author.Needs.{needs}
 use native.Mathlib.Omega.{arith}
-use mathlib.Core.Path.{_≡_, sym, ap}
+use mathlib.Core.Path.{sym, ap}
 use mathlib.Core.Logic.{_≢_}
 use Prim.Native.Nat.{ℕ, _-_, _≤_}
 use lib.ListN.{length, take}
@@ -10,9 +10,6 @@ use Rattle.pages.specs.Words.{listed}
 use Rattle.pages.specs.WordLaws.{listed-none, listed-more, listed-all}
 use Rattle.pages.proofs.output.put_listed.Statement.{statement}
 use Rattle.pages.proofs.output.put_listed.Tie as tie
-use Rattle.pages.proofs.output.put_listed.Reads as reads
-use Rattle.pages.proofs.output.put_listed.Lts as lts
-use Rattle.pages.proofs.output.put_between.Reads as put-between-reads
 
 abbrev Inv-loop : tie.InvT-loop
 Inv-loop before behind xs n out₀ at i₀ e₀ out i e = (i ≤ length xs) × (i ≤ n) × Wrote out₀ at (listed before behind (take i xs)) out e

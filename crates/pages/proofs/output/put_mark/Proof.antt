@@ -1,13 +1,9 @@
 -- `pages::output::put_mark` meets its contract. Assumes nothing.
 use borrow.Author.Needs.{needs}
-use native.Mathlib.Omega.{arith}
 use Rattle.pages.specs.Output.{wrote-as, wrote-none}
 use Rattle.pages.specs.WordLaws.{marked-none, marked-some}
 use Rattle.pages.proofs.output.put_mark.Statement.{statement}
 use Rattle.pages.proofs.output.put_mark.Tie as tie
-use Rattle.pages.proofs.output.put_mark.Reads as reads
-use Rattle.pages.proofs.output.put_mark.Lts as lts
-use Rattle.pages.proofs.output.put_number.Reads as put-number-reads
 
 returns : tie.Need-returns
 returns c = wrote-as (marked-none _ _ (c .if1 .taken)) (wrote-none _ _)

@@ -1,13 +1,8 @@
 -- `pages::output::put_number` meets its contract. Assumes nothing.
 use borrow.Author.Needs.{needs}
-use native.Mathlib.Omega.{arith}
 use Rattle.pages.specs.Output.{wrote-then}
 use Rattle.pages.proofs.output.put_number.Statement.{statement}
 use Rattle.pages.proofs.output.put_number.Tie as tie
-use Rattle.pages.proofs.output.put_number.Reads as reads
-use Rattle.pages.proofs.output.put_number.Lts as lts
-use Rattle.pages.proofs.output.put_bytes.Reads as put-bytes-reads
-use Rattle.pages.proofs.output.put_decimal.Reads as put-decimal-reads
 
 put-bytes-requires : tie.Need-put-bytes-requires
 put-bytes-requires c κs = search needs

@@ -1,13 +1,9 @@
 -- `pages::output::put_shown` meets its contract. Assumes nothing.
 use borrow.Author.Needs.{needs}
-use native.Mathlib.Omega.{arith}
 use Rattle.pages.specs.Output.{wrote-as, wrote-none, wrote-length}
 use Rattle.pages.specs.WordLaws.{shown-yes, shown-not}
 use Rattle.pages.proofs.output.put_shown.Statement.{statement}
 use Rattle.pages.proofs.output.put_shown.Tie as tie
-use Rattle.pages.proofs.output.put_shown.Reads as reads
-use Rattle.pages.proofs.output.put_shown.Lts as lts
-use Rattle.pages.proofs.output.put_byte.Reads as put-byte-reads
 
 put-byte-requires : tie.Need-put-byte-requires
 put-byte-requires c κs = search needs

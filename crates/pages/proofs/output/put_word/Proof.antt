@@ -1,7 +1,7 @@
 -- `pages::output::put_word` meets its contract. From place k on the word goes on with `left` words to pass. Assumes nothing.
 use borrow.Author.Needs.{needs}
 use native.Mathlib.Omega.{arith}
-use mathlib.Core.Path.{_≡_, sym, ap, _∙_}
+use mathlib.Core.Path.{sym, ap, _∙_}
 use Prim.Native.Nat.{ℕ, _+_, _-_, _≤_}
 use lib.ListN.{length, drop}
 use Rattle.pages.specs.Output.{Goes, goes-start, goes-as, goes-on, goes-end, goes-length}
@@ -9,11 +9,6 @@ use Rattle.pages.specs.Words.{word}
 use Rattle.pages.specs.WordLaws.{word-ends, word-goes, word-end}
 use Rattle.pages.proofs.output.put_word.Statement.{statement}
 use Rattle.pages.proofs.output.put_word.Tie as tie
-use Rattle.pages.proofs.output.put_word.Reads as reads
-use Rattle.pages.proofs.output.put_word.Lts as lts
-use Rattle.pages.proofs.output.ends.Reads as ends-reads
-use Rattle.pages.proofs.output.left_after.Reads as left-after-reads
-use Rattle.pages.proofs.output.put_shown.Reads as put-shown-reads
 
 abbrev Inv-loop : tie.InvT-loop
 Inv-loop text i out₀ at left₀ k₀ e₀ out left k e = (k ≤ length text) × Goes out₀ at (word i text) out e (word left (drop k text))

@@ -5,9 +5,6 @@ use Rattle.pages.specs.Output.{wrote-whole}
 use Rattle.pages.specs.SizeLaws.{page-short}
 use Rattle.pages.proofs.page.print_page.Statement.{statement}
 use Rattle.pages.proofs.page.print_page.Tie as tie
-use Rattle.pages.proofs.page.print_page.Reads as reads
-use Rattle.pages.proofs.page.print_page.Lts as lts
-use Rattle.pages.proofs.page.put_page.Reads as put-page-reads
 
 put-page-requires : tie.Need-put-page-requires
 put-page-requires c κs = search needs

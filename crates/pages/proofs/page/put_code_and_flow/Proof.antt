@@ -1,15 +1,9 @@
 -- `pages::page::put_code_and_flow` meets its contract. Assumes nothing.
 use borrow.Author.Needs.{needs}
-use native.Mathlib.Omega.{arith}
 use Rattle.pages.specs.Output.{wrote-as, wrote-then}
 use Rattle.pages.specs.PageLaws.{code-and-flow-is}
 use Rattle.pages.proofs.page.put_code_and_flow.Statement.{statement}
 use Rattle.pages.proofs.page.put_code_and_flow.Tie as tie
-use Rattle.pages.proofs.page.put_code_and_flow.Reads as reads
-use Rattle.pages.proofs.page.put_code_and_flow.Lts as lts
-use Rattle.pages.proofs.blocks.put_flow.Reads as put-flow-reads
-use Rattle.pages.proofs.code.put_code.Reads as put-code-reads
-use Rattle.pages.proofs.output.put_bytes.Reads as put-bytes-reads
 
 slice-aggregate-put-bytes : tie.Need-slice-aggregate-put-bytes
 slice-aggregate-put-bytes c = search needs

@@ -1,6 +1,5 @@
 -- `pages::page::put_page` meets its contract. Assumes nothing.
 use borrow.Author.Needs.{needs}
-use native.Mathlib.Omega.{arith}
 use mathlib.Core.Path.{sym, ap, ap₂, _∙_}
 use Rattle.sheet.specs.Checks.{answerOf}
 use Rattle.listing.specs.Text.{refusedText}
@@ -8,13 +7,6 @@ use Rattle.pages.specs.Output.{wrote-as}
 use Rattle.pages.specs.PageLaws.{page-accepted, page-refused}
 use Rattle.pages.proofs.page.put_page.Statement.{statement}
 use Rattle.pages.proofs.page.put_page.Tie as tie
-use Rattle.pages.proofs.page.put_page.Reads as reads
-use Rattle.pages.proofs.page.put_page.Lts as lts
-use Rattle.base.proofs.Refusal.number.Reads as number-reads
-use Rattle.base.proofs.Refusal.place.Reads as place-reads
-use Rattle.pages.proofs.page.put_refused.Reads as put-refused-reads
-use Rattle.pages.proofs.page.put_sections.Reads as put-sections-reads
-use Rattle.sheet.proofs.check.check.Reads as check-reads
 
 check-requires : tie.Need-check-requires
 check-requires c κs = search needs

@@ -1,17 +1,11 @@
 -- `pages::page::put_refused` meets its contract. Assumes nothing.
 use borrow.Author.Needs.{needs}
-use native.Mathlib.Omega.{arith}
 use Prim.Native.Nat.{ℕ}
 use Rattle.pages.specs.Output.{wrote-as, wrote-by, wrote-then}
 use Rattle.pages.specs.Words.{ascii, said}
 use Rattle.pages.specs.PageLaws.{refused-is}
 use Rattle.pages.proofs.page.put_refused.Statement.{statement}
 use Rattle.pages.proofs.page.put_refused.Tie as tie
-use Rattle.pages.proofs.page.put_refused.Reads as reads
-use Rattle.pages.proofs.page.put_refused.Lts as lts
-use Rattle.pages.proofs.output.put_bytes.Reads as put-bytes-reads
-use Rattle.pages.proofs.output.put_number.Reads as put-number-reads
-use Rattle.pages.proofs.page.wide16.Reads as wide16-reads
 
 slice-aggregate-put-number : tie.Need-slice-aggregate-put-number
 slice-aggregate-put-number c = search needs

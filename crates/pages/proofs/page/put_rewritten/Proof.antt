@@ -1,6 +1,5 @@
 -- `pages::page::put_rewritten` meets its contract. Assumes nothing.
 use borrow.Author.Needs.{needs}
-use native.Mathlib.Omega.{arith}
 use mathlib.Core.Path.{_≡_, sym, ap, ap₂, _∙_}
 use mathlib.Core.List.{List}
 use lib.ListN.{length, replicate, length-replicate}
@@ -12,13 +11,6 @@ use Rattle.pages.specs.Output.{wrote-as}
 use Rattle.pages.specs.PageLaws.{rewrite-refused, rewrite-written, rewrite-room, again-accepted, front-long}
 use Rattle.pages.proofs.page.put_rewritten.Statement.{statement}
 use Rattle.pages.proofs.page.put_rewritten.Tie as tie
-use Rattle.pages.proofs.page.put_rewritten.Reads as reads
-use Rattle.pages.proofs.page.put_rewritten.Lts as lts
-use Rattle.base.proofs.Refusal.number.Reads as number-reads
-use Rattle.base.proofs.Refusal.place.Reads as place-reads
-use Rattle.livevar_transform.proofs.rewrite.rewrite.Reads as rewrite-reads
-use Rattle.pages.proofs.code.put_code.Reads as put-code-reads
-use Rattle.pages.proofs.page.put_refused.Reads as put-refused-reads
 
 abbrev blank : List ℕ
 blank = replicate maxBytes 0

@@ -1,16 +1,9 @@
 -- `pages::page::put_sections` meets its contract. Assumes nothing.
 use borrow.Author.Needs.{needs}
-use native.Mathlib.Omega.{arith}
 use Rattle.pages.specs.Output.{wrote-as, wrote-then}
 use Rattle.pages.specs.PageLaws.{sections-is}
 use Rattle.pages.proofs.page.put_sections.Statement.{statement}
 use Rattle.pages.proofs.page.put_sections.Tie as tie
-use Rattle.pages.proofs.page.put_sections.Reads as reads
-use Rattle.pages.proofs.page.put_sections.Lts as lts
-use Rattle.pages.proofs.output.put_bytes.Reads as put-bytes-reads
-use Rattle.pages.proofs.page.put_code_and_flow.Reads as put-code-and-flow-reads
-use Rattle.pages.proofs.page.put_rewritten.Reads as put-rewritten-reads
-use Rattle.pages.proofs.sets.put_live.Reads as put-live-reads
 
 put-code-and-flow-requires : tie.Need-put-code-and-flow-requires
 put-code-and-flow-requires c κs = search needs

@@ -1,14 +1,9 @@
 -- `pages::sets::put_before` meets its contract. Assumes nothing.
 use borrow.Author.Needs.{needs}
-use native.Mathlib.Omega.{arith}
 use Rattle.pages.specs.Output.{wrote-as, wrote-then}
 use Rattle.pages.specs.PageLaws.{before-is}
 use Rattle.pages.proofs.sets.put_before.Statement.{statement}
 use Rattle.pages.proofs.sets.put_before.Tie as tie
-use Rattle.pages.proofs.sets.put_before.Reads as reads
-use Rattle.pages.proofs.sets.put_before.Lts as lts
-use Rattle.pages.proofs.output.put_bytes.Reads as put-bytes-reads
-use Rattle.pages.proofs.output.put_decimal.Reads as put-decimal-reads
 
 put-decimal-requires : tie.Need-put-decimal-requires
 put-decimal-requires c κs = search needs

@@ -1,18 +1,12 @@
 -- `pages::sets::put_lines` meets its contract. The lines of the first k instructions are written. Assumes nothing.
 use borrow.Author.Needs.{needs}
 use native.Mathlib.Omega.{arith}
-use mathlib.Core.Path.{_≡_, sym, _∙_}
-use Prim.Native.Nat.{ℕ, _-_, _*_, _≤_}
-use lib.ListN.{length}
+use Prim.Native.Nat.{_-_, _≤_}
 use Rattle.livevar_analysis.specs.Output.{infosOf}
 use Rattle.pages.specs.Output.{Wrote, wrote-as, wrote-none, wrote-then, wrote-length}
 use Rattle.pages.specs.PageLaws.{liveLines, live-none, live-more, live-all}
 use Rattle.pages.proofs.sets.put_lines.Statement.{statement}
 use Rattle.pages.proofs.sets.put_lines.Tie as tie
-use Rattle.pages.proofs.sets.put_lines.Reads as reads
-use Rattle.pages.proofs.sets.put_lines.Lts as lts
-use Rattle.pages.proofs.blocks.put_total.Reads as put-total-reads
-use Rattle.pages.proofs.sets.put_live_line.Reads as put-live-line-reads
 
 abbrev Inv-loop : tie.InvT-loop
 Inv-loop sets n taken out₀ at e₀ k₀ t9 out e k = (k ≤ n) × Wrote out₀ at (liveLines (infosOf n sets) k) out e

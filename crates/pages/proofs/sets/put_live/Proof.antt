@@ -13,11 +13,6 @@ use Rattle.pages.specs.CodeLaws.{heading-there}
 use Rattle.pages.specs.PageLaws.{live-never, live-written}
 use Rattle.pages.proofs.sets.put_live.Statement.{statement}
 use Rattle.pages.proofs.sets.put_live.Tie as tie
-use Rattle.pages.proofs.sets.put_live.Reads as reads
-use Rattle.pages.proofs.sets.put_live.Lts as lts
-use Rattle.livevar_analysis.proofs.analysis.live.Reads as live-reads
-use Rattle.pages.proofs.sets.put_lines.Reads as put-lines-reads
-use Rattle.sheet.proofs.reader.u16_at.Reads as u16-at-reads
 
 abbrev blank : List ℕ
 blank = replicate (2 * setBytes * maxInstructions) 0

@@ -1,15 +1,9 @@
 -- `pages::sets::put_live_line` meets its contract. Assumes nothing.
 use borrow.Author.Needs.{needs}
-use native.Mathlib.Omega.{arith}
 use Rattle.pages.specs.Output.{wrote-as, wrote-then}
 use Rattle.pages.specs.PageLaws.{live-line-is}
 use Rattle.pages.proofs.sets.put_live_line.Statement.{statement}
 use Rattle.pages.proofs.sets.put_live_line.Tie as tie
-use Rattle.pages.proofs.sets.put_live_line.Reads as reads
-use Rattle.pages.proofs.sets.put_live_line.Lts as lts
-use Rattle.pages.proofs.output.put_bytes.Reads as put-bytes-reads
-use Rattle.pages.proofs.sets.put_before.Reads as put-before-reads
-use Rattle.pages.proofs.sets.put_set.Reads as put-set-reads
 
 put-before-requires : tie.Need-put-before-requires
 put-before-requires c κs = search needs

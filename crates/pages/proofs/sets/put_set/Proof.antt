@@ -1,16 +1,10 @@
 -- `pages::sets::put_set` meets its contract. Assumes nothing.
 use borrow.Author.Needs.{needs}
-use native.Mathlib.Omega.{arith}
 use Rattle.pages.specs.Output.{wrote-as, wrote-then}
 use Rattle.pages.specs.WordLaws.{put-digits, digits-long}
 use Rattle.pages.specs.PageLaws.{set-is}
 use Rattle.pages.proofs.sets.put_set.Statement.{statement}
 use Rattle.pages.proofs.sets.put_set.Tie as tie
-use Rattle.pages.proofs.sets.put_set.Reads as reads
-use Rattle.pages.proofs.sets.put_set.Lts as lts
-use Rattle.listing.proofs.numbers.put_set.Reads as put-set-reads
-use Rattle.pages.proofs.code.put_locals.Reads as put-locals-reads
-use Rattle.pages.proofs.output.put_bytes.Reads as put-bytes-reads
 
 slice-aggregate-put-set : tie.Need-slice-aggregate-put-set
 slice-aggregate-put-set c = search needs
