@@ -161,10 +161,11 @@ pub fn put_locals(p: &[u8], out: &mut [u8], at: usize) -> usize
     ensures { λ r. ⌜ Wrote (now (out .entry)) at (localsIn (number (now (p .entry)))) (now (out .exit)) r ⌝ }
 {
     let set = LiveVarState::load_bytes(p);
-    let mut i = 0u8;
+    let mut i = 0;
     let mut e = at;
-    while wide8(i) < MAX_LOCALS {
-        e = put_local(set.has(i), i, out, e);
+    while i < MAX_LOCALS {
+        let local = i as u8;
+        e = put_local(set.has(local), local, out, e);
         i += 1;
     }
     e

@@ -22,31 +22,29 @@ load-bytes-requires c κs = search needs
 loop-holds : tie.Need-loop-holds Inv-loop μ-loop
 loop-holds c = (omega arith, wrote-as (sym (below-none _)) (wrote-none _ _))
 
-wide8-requires : tie.Need-wide8-requires Inv-loop μ-loop
-wide8-requires c κs = search needs
+cast-local : tie.Need-cast-local Inv-loop μ-loop
+cast-local c = search needs
 
 has-requires : tie.Need-has-requires Inv-loop μ-loop
-has-requires c κs = omega (arith, c .before .wide8 .ensures)
+has-requires c κs = search needs
 
 put-local-requires : tie.Need-put-local-requires Inv-loop μ-loop
 put-local-requires c κs = search needs
 
 add-i : tie.Need-add-i Inv-loop μ-loop
-add-i c = omega (arith, c .before .before .before .before .before .before .wide8 .ensures)
+add-i c = search needs
 
 loop-less : tie.Need-loop-less Inv-loop μ-loop
-loop-less c = omega (arith, c .before .before .before .before .before .before .wide8 .ensures)
+loop-less c = search needs
 
 loop-again : tie.Need-loop-again Inv-loop μ-loop
-loop-again c =
-    let l = c .before .before .before .before .before .before .before .loop in
-    (omega (arith, c .before .before .before .before .before .before .wide8 .ensures), wrote-as (sym (below-more (c .before .before .before .before .before .before .before .before .before .before .before .args .p .now) (l .i) _ _ (c .before .before .before .before .before .before .before .before .load-bytes .ensures) (c .before .before .before .before .has .ensures))) (wrote-then (l .inv .1) (c .before .before .put-local .ensures)))
+loop-again c = let l = c .before .before .before .before .before .before .loop in (omega arith, wrote-as (sym (below-more (c .before .before .before .before .before .before .before .before .before .before .args .p .now) (l .i) _ _ (c .before .before .before .before .before .before .before .load-bytes .ensures) (c .before .before .before .before .has .ensures))) (wrote-then (l .inv .1) (c .before .before .put-local .ensures)))
 
 same-length : tie.Need-same-length Inv-loop μ-loop
-same-length c = wrote-length (c .before .before .loop .inv .1)
+same-length c = wrote-length (c .before .loop .inv .1)
 
 returns : tie.Need-returns Inv-loop μ-loop
-returns c = let l = c .before .before .loop in let all : l .i ≡ maxLocals = omega (arith, c .before .wide8 .ensures) in wrote-as (below-all (number (c .before .before .before .before .before .before .args .p .now)) (l .i) all) (l .inv .1)
+returns c = let l = c .before .loop in let all : l .i ≡ maxLocals = omega arith in wrote-as (below-all (number (c .before .before .before .before .before .args .p .now)) (l .i) all) (l .inv .1)
 
 pub put-locals-spec : {M : Type 1} → statement M
 put-locals-spec =
@@ -56,7 +54,7 @@ put-locals-spec =
     μ-loop
     load-bytes-requires
     loop-holds
-    wide8-requires
+    cast-local
     has-requires
     put-local-requires
     add-i
