@@ -1,27 +1,22 @@
 -- What the calls answer, in the paper's numbers, and what the checks say. Assumes nothing.
 use Prim.Native.Nat.{ℕ}
 use mathlib.Core.Option.{Option, none, some}
-use Rattle.base.specs.declared.Refusal.{Refusal}
-use Rattle.base.specs.Refusals.{numberOf, placeOf, Answer, Result}
+use Rattle.base.specs.Refusals.{numberOf, placeOf, Answer, Result, refusedResult}
 use Rattle.borrow_analysis.specs.declared.answers.Asked.{Asked}
 use Rattle.borrow_analysis.specs.declared.answers.Dying.{Dying}
 use Rattle.borrow_analysis.specs.declared.graph.Found.{Found}
 use Rattle.borrow_analysis.specs.declared.graph.Checked.{Checked}
 
--- the number and the place of a refusal
-abbrev pub refusedOf : Refusal → Result
-refusedOf r = record { number = numberOf r; value = placeOf r }
-
 -- yes is 1, no is 0
 abbrev pub askedOf : Asked → Result
 askedOf Asked.Yes = record { number = 0; value = 1 }
 askedOf Asked.No = record { number = 0; value = 0 }
-askedOf (Asked.Refused r) = refusedOf r
+askedOf (Asked.Refused r) = refusedResult r
 
 -- how many nodes are listed
 abbrev pub dyingOf : Dying → Result
 dyingOf (Dying.Count n) = record { number = 0; value = n }
-dyingOf (Dying.Refused r) = refusedOf r
+dyingOf (Dying.Refused r) = refusedResult r
 
 -- ---- the checks
 

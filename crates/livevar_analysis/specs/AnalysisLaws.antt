@@ -169,12 +169,6 @@ module _ (code : List Bytecode) (sound : Sound code) (l : ℕ) (small : (r : Byt
           block (getD (keyed code) j 0) (r .0) (in-keyed code sound (getD (keyed code) j 0) (getD-in (keyed code) j 0 within))
           (is ∙ ap (λ (x : ℕ). suc (suc x)) (sym (place-getD j (keyed-distinct code) within))) (r .1) (r .2)
 
-  -- no edge goes to the entrance
-  not-zero : (p : ℕ) → From 0 p → ⊥
-  unfolding keyOf
-  not-zero p (entrance e q) = omega arith
-  not-zero p (block o o′ s e i q) = omega arith
-
   -- the edge from the block at o to the block at o′
   edge-in : (o o′ : ℕ) → Start code o → List·Memᴰ o′ (successors code (upperOf code o))
       → List·Memᴰ (keyOf (keyed code) o) (leadsTo (nextsOf code (keyed code)) (keyOf (keyed code) o′))

@@ -25,7 +25,7 @@ use Rattle.sheet.specs.Layout.{countOf, codeOf, instructionAt, encode}
 use Rattle.sheet.specs.Checks.{checkSheet}
 use Rattle.base.specs.Refusals.{Accepted}
 use Rattle.livevar_analysis.specs.InputLaws.{code-at}
-use Rattle.sheet_writer.specs.RecordsLaws.{placed, placed-none, placed-more, placed-one, tail-put, placed-length}
+use Rattle.sheet_writer.specs.RecordsLaws.{placed, placed-none, placed-more, placed-one, tail-put}
 use Rattle.livevar_transform.specs.declared.transform.Next.{Next}
 use Rattle.livevar_analysis.specs.Analysis.{LiveVarInfo}
 use Rattle.livevar_analysis.specs.Output.{infosOf}
@@ -53,10 +53,6 @@ module _ {refs : List ℕ} {first : ℕ} {d : List ℕ} {m i : ℕ} {out : List 
 
   taken-length : length (take i (destroys first refs)) ≡ i
   taken-length = length-take-le i (destroys first refs) (omega (arith, destroys-length first refs, w .inside))
-
-  pub walk-length : recordBytes * length refs ≤ length d → length out ≡ length d
-  walk-length h =
-      ap length (w .is) ∙ placed-length (take i (destroys first refs)) d (omega (arith, taken-length, w .inside))
 
   pub walk-next : (x m′ : ℕ) (new : List ℕ) → Lowest m x → m′ ≡ minus m (2 ^ x) → new ≡ encode (made Call Destroy (first + i) 0 (x ∷ []))
       → Walk refs first d m′ (i + 1) (take (recordBytes * i) out ++ (new ++ drop (recordBytes * i + recordBytes - recordBytes * i) (drop (recordBytes * i) out)))
