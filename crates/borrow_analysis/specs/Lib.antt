@@ -1,8 +1,11 @@
+-- What the public contracts and theorems say.
 pub mod Graph
 pub mod Borrows
-pub mod Meaning
 pub mod Answers
+pub mod Meaning
+-- What the inner contracts say.
 pub mod Parts
+-- Laws.
 pub mod GraphLaws
 pub mod BorrowLaws
 pub mod TripleLaws

@@ -1,1 +1,2 @@
+-- What the public contracts and theorems say.
 pub mod Packed

@@ -1,6 +1,9 @@
+-- What the public contracts and theorems say.
 pub mod Lattice
 pub mod Worklist
+-- What the inner contracts say.
 pub mod Queue
+-- Laws.
 pub mod LatticeLaws
 pub mod WorklistLaws
 pub mod LeastLaws

@@ -1,3 +1,4 @@
+-- Laws.
 pub mod EncodeLaws
 pub mod WriterLaws
 pub mod BodyLaws

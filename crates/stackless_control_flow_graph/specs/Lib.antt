@@ -1,8 +1,12 @@
+-- What the public contracts and theorems say.
 pub mod Blocks
 pub mod Backward
-pub mod BlockLaws
 pub mod Flow
+-- What the inner contracts say.
 pub mod Arrays
+pub mod Sorting
+-- Laws.
+pub mod BlockLaws
 pub mod NextLaws
 pub mod StartLaws
 pub mod GivenLaws
@@ -12,7 +16,6 @@ pub mod FlowLaws
 pub mod GraphLaws
 pub mod RowLaws
 pub mod CallLaws
-pub mod Sorting
 pub mod SortLaws
 pub mod SlotLaws
 pub mod LeadLaws

@@ -1,5 +1,7 @@
+-- What the public contracts and theorems say.
 pub mod Samples
-pub mod Opened
 pub mod Worked
 pub mod Readings
 pub mod Pages
+-- What the inner contracts say.
+pub mod Opened
