@@ -1,18 +1,19 @@
 // The pages of seven sheets of two blocks each, M1 to M6 and one with an unknown kind, one behind the other on standard input:
 // the output is compared with the pages in sheets/.
+use base::BLOCK_BYTES;
 use libc::STDIN_FILENO;
 use libc::STDOUT_FILENO;
 use pages::page::PAGE_BYTES;
-use pages::page::print_page;
+use pages::page::put_page;
 
 // Two blocks.
-const SHEET: usize = 1024;
+const SHEET: usize = 2 * BLOCK_BYTES;
 
 fn next_page() {
     let mut sheet = [0u8; SHEET];
     let mut text = [0u8; PAGE_BYTES];
     let n = io::read_full(STDIN_FILENO, &mut sheet);
-    let m = print_page(&sheet[..n], &mut text);
+    let m = put_page(&sheet[..n], &mut text);
     io::write_all(STDOUT_FILENO, &text[..m]);
 }
 

@@ -1,22 +1,24 @@
--- The visits of the definition: the parents of a node, one visit, and that what is seen only grows. Assumes nothing.
+-- The visits of the definition: the parents of a node, one visit, and that what is visited only grows. Assumes nothing.
 use mathlib.Core.Path.{_≡_, refl, sym, ap, _∙_, subst}
 use mathlib.Core.Logic.{⊎-elim}
 use mathlib.Core.Bool.{Bool, true, false, cond, _||_}
-use mathlib.Core.List.{List, [], _∷_, _++_, List·Memᴰ, List·Memᴰ·head, List·Memᴰ·tail, List·Memᴰ·not-nil, List·Memᴰ·cases-cons}
+use mathlib.Core.List.{List, [], _∷_, List·Memᴰ, List·Memᴰ·head, List·Memᴰ·tail, List·Memᴰ·not-nil, List·Memᴰ·cases-cons}
 use Prim.Native.Nat.{ℕ, zero, suc, _+_, _-_, _^_, _≤_, _<_}
 use native.Mathlib.Omega.{arith}
 use borrow.Author.Tests.{eq-eqb, ne-eqb, eqb-true}
 use lib.Count.{ones}
 use lib.Dec.{eqb}
-use lib.ListN.{length, length-append}
+use lib.ListN.{length-append}
 use lib.Pow.{pow-lt}
 use Rattle.base.specs.Lists.{tab, over}
 use Rattle.base.specs.ListLaws.{by-test, or-false}
 use Rattle.base.specs.TabLaws.{tab-more, tab-end, over-keeps}
-use Rattle.dataflow_domains.specs.Mask.{holds, union, Sub}
-use Rattle.dataflow_domains.specs.MaskLaws.{union-comm, ones-insert, sub-refl, sub-trans, sub-union-r, union-lt, holds-false}
-use Rattle.borrow_analysis.specs.Graph.{Triple}
-use Rattle.borrow_analysis.specs.Borrows.{Seen, getParents, collectAncestors}
+use Rattle.dataflow_domains.specs.Mask.{holds}
+use Rattle.dataflow_domains.specs.MaskLaws.{union-comm, ones-insert, sub-refl, sub-trans, sub-union-r, union-lt}
+use Rattle.dataflow_domains.specs.HoldsLaws.{holds-false}
+use Rattle.borrow_analysis.specs.declared.triples.Triple.{Triple}
+use Rattle.borrow_analysis.specs.Borrows.{getParents, VisitedNodes, listNode, collectAncestors}
+use Rattle.borrow_analysis.specs.Visiting.{ListedBelow, VisitsGrow}
 
 -- ---- the parents of a node
 
@@ -43,11 +45,7 @@ parents-in (u ∷ us) t i =
 
 -- ---- one visit
 
--- n is seen and listed
-abbrev pub listing : Seen → ℕ → Seen
-listing st n = record { mask = union (2 ^ n) (st .mask); listed = st .listed ++ (n ∷ []) }
-
-module _ (ts : List Triple) (used : ℕ) (st : Seen) (n : ℕ) where
+module _ (ts : List Triple) (used : ℕ) (st : VisitedNodes) (n : ℕ) where
   pub collect-zero : (d : ℕ) → d ≡ 0 → st ≡ collectAncestors d ts used st n
   unfolding collectAncestors
   collect-zero d e = rw e
@@ -56,29 +54,20 @@ module _ (ts : List Triple) (used : ℕ) (st : Seen) (n : ℕ) where
   unfolding collectAncestors
   collect-skip zero e = refl
   collect-skip (suc d) e =
-      ap (λ (b : Bool). elim b as (λ _. Seen) [ true ↦ st | false ↦ over (collectAncestors d ts used) (listing st n) (getParents ts n) ]) (sym e)
+      ap (λ (b : Bool). elim b as (λ _. VisitedNodes) [ true ↦ st | false ↦ over (collectAncestors d ts used) (listNode st n) (getParents ts n) ]) (sym e)
 
   pub collect-new : (d : ℕ) → 0 < d → holds (st .mask) n || holds used n ≡ false
-      → over (collectAncestors (d - 1) ts used) (listing st n) (getParents ts n) ≡ collectAncestors d ts used st n
+      → over (collectAncestors (d - 1) ts used) (listNode st n) (getParents ts n) ≡ collectAncestors d ts used st n
   unfolding collectAncestors
   collect-new zero h e = absurd (omega arith)
   collect-new (suc d) h e =
       let less : suc d - 1 ≡ d = omega arith in
-      ap (λ (k : ℕ). over (collectAncestors k ts used) (listing st n) (getParents ts n)) less
-      ∙ ap (λ (b : Bool). elim b as (λ _. Seen) [ true ↦ st | false ↦ over (collectAncestors d ts used) (listing st n) (getParents ts n) ]) (sym e)
+      ap (λ (k : ℕ). over (collectAncestors k ts used) (listNode st n) (getParents ts n)) less
+      ∙ ap (λ (b : Bool). elim b as (λ _. VisitedNodes) [ true ↦ st | false ↦ over (collectAncestors d ts used) (listNode st n) (getParents ts n) ]) (sym e)
 
--- ---- what is seen grows
+-- ---- what is visited grows
 
--- as many are listed as are seen, each below c
-pub record Fair (c : ℕ) (st : Seen) : Type 0 where
-  pub each : length (st .listed) ≡ ones (st .mask)
-  pub small : st .mask < 2 ^ c
-
-pub record Grows (c : ℕ) (old new : Seen) : Type 0 where
-  pub fair : Fair c new
-  pub has : Sub (old .mask) (new .mask)
-
-pub list-grows : {c : ℕ} (st : Seen) (n : ℕ) → Fair c st → n < c → holds (st .mask) n ≡ false → Grows c st (listing st n)
+pub list-grows : {c : ℕ} (st : VisitedNodes) (n : ℕ) → ListedBelow c st → n < c → holds (st .mask) n ≡ false → VisitsGrow c st (listNode st n)
 list-grows {c} st n w h e = record {
   fair = record {
     each = length-append (st .listed) (n ∷ []) ∙ omega (arith, w .each, ap ones (union-comm (2 ^ n) (st .mask)), ones-insert n (st .mask) (holds-false (st .mask) n e));
@@ -88,32 +77,32 @@ list-grows {c} st n w h e = record {
 }
 
 module _ (ts : List Triple) (used c : ℕ) (inside : (t : Triple) → List·Memᴰ t ts → t .parent < c) where
-  pub collect-grows : (d : ℕ) (st : Seen) (n : ℕ) → n < c → Fair c st → Grows c st (collectAncestors d ts used st n)
+  pub collect-grows : (d : ℕ) (st : VisitedNodes) (n : ℕ) → n < c → ListedBelow c st → VisitsGrow c st (collectAncestors d ts used st n)
   unfolding collectAncestors
   collect-grows zero st n h w = record { fair = w; has = sub-refl (st .mask) }
   collect-grows (suc d) st n h w =
-      by-test (λ b. Grows c st (elim b [ true ↦ st | false ↦ over (collectAncestors d ts used) (listing st n) (getParents ts n) ])) (holds (st .mask) n || holds used n)
+      by-test (λ b. VisitsGrow c st (elim b [ true ↦ st | false ↦ over (collectAncestors d ts used) (listNode st n) (getParents ts n) ])) (holds (st .mask) n || holds used n)
       (λ e. record { fair = w; has = sub-refl (st .mask) })
-      (λ e. over-keeps (Grows c st) (collectAncestors d ts used) (getParents ts n) (listing st n)
+      (λ e. over-keeps (VisitsGrow c st) (collectAncestors d ts used) (getParents ts n) (listNode st n)
       (λ s p i g. next g (collect-grows d s p (below p i) (g .fair))) (list-grows st n w h (or-false (holds (st .mask) n) (holds used n) e .0)))
     where
       below : (p : ℕ) → List·Memᴰ p (getParents ts n) → p < c
       below p i = let r = in-parents ts n p i in omega (arith, inside (r .0) (r .1), r .3)
 
-      next : {a b : Seen} → Grows c st a → Grows c a b → Grows c st b
+      next : {a b : VisitedNodes} → VisitsGrow c st a → VisitsGrow c a b → VisitsGrow c st b
       next g k = record { fair = k .fair; has = sub-trans (g .has) (k .has) }
 
 -- ---- the loop over the triples, from i on
 
 module _ {B : Type 0} (f : B → ℕ → B) (g : ℕ → Triple) (n x : ℕ) where
-  pub up-more : (st : B) (i : ℕ) → i < n → g i .child ≡ x → over f st (getParents (tab (n - i) i g) x) ≡ over f (f st (g i .parent)) (getParents (tab (n - (i + 1)) (i + 1) g) x)
+  pub over-more : (st : B) (i : ℕ) → i < n → g i .child ≡ x → over f st (getParents (tab (n - i) i g) x) ≡ over f (f st (g i .parent)) (getParents (tab (n - (i + 1)) (i + 1) g) x)
   unfolding over getParents
-  up-more st i h e = rw (tab-more n i g h, eq-eqb (g i .child) x e)
+  over-more st i h e = rw (tab-more n i g h, eq-eqb (g i .child) x e)
 
-  pub up-same : (st : B) (i : ℕ) → i < n → (g i .child ≡ x → ⊥) → over f st (getParents (tab (n - i) i g) x) ≡ over f st (getParents (tab (n - (i + 1)) (i + 1) g) x)
+  pub over-other : (st : B) (i : ℕ) → i < n → (g i .child ≡ x → ⊥) → over f st (getParents (tab (n - i) i g) x) ≡ over f st (getParents (tab (n - (i + 1)) (i + 1) g) x)
   unfolding over getParents
-  up-same st i h e = rw (tab-more n i g h, ne-eqb (g i .child) x e)
+  over-other st i h e = rw (tab-more n i g h, ne-eqb (g i .child) x e)
 
-  pub up-end : (st : B) (i : ℕ) → n ≤ i → over f st (getParents (tab (n - i) i g) x) ≡ st
+  pub over-end : (st : B) (i : ℕ) → n ≤ i → over f st (getParents (tab (n - i) i g) x) ≡ st
   unfolding over getParents
-  up-end st i h = rw (tab-end n i g h)
+  over-end st i h = rw (tab-end n i g h)

@@ -9,8 +9,10 @@ use native.Mathlib.Omega.{arith}
 use lib.Count.{ones, ones-ones}
 use lib.Pow.{pow-lt, pow-pos}
 use Rattle.dataflow_domains.specs.Mask.{bit, holds, Sub}
-use Rattle.dataflow_domains.specs.MaskLaws.{bit-lt, bit-union, bit-empty, bit-self, bit-other, holds-true, true-holds, sub-refl, sub-trans, sub-antisymm, sub-union-l, sub-union-r, sub-full, sub-at, union-lt, ones-mono, ones-same}
-use Rattle.borrow_analysis.specs.Graph.{Triple, Graph}
+use Rattle.dataflow_domains.specs.MaskLaws.{bit-lt, bit-union, bit-empty, bit-self, bit-other, sub-refl, sub-trans, sub-antisymm, sub-union-l, sub-union-r, sub-full, sub-at, union-lt, ones-mono, ones-same}
+use Rattle.dataflow_domains.specs.HoldsLaws.{holds-true, true-holds}
+use Rattle.borrow_analysis.specs.declared.triples.Triple.{Triple}
+use Rattle.borrow_analysis.specs.Graph.{Graph}
 use Rattle.borrow_analysis.specs.Borrows.{parentsIn, upward, above, isInUse}
 use Rattle.borrow_analysis.specs.Meaning.{Descends, same, down, Reaches}
 use Rattle.base.specs.ListLaws.{by-test, by-eq}

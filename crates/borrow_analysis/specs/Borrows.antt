@@ -5,9 +5,10 @@ use mathlib.Core.List.{List, [], _∷_, _++_}
 use lib.Dec.{eqb, ltb}
 use lib.ListN.{length}
 use Rattle.base.specs.Lists.{keep, over}
-use Rattle.base.specs.Refusals.{Reply, Done, reply}
+use Rattle.base.specs.Refusals.{_then_, lends, Reply, Done, reply}
 use Rattle.dataflow_domains.specs.Mask.{holds, union}
-use Rattle.borrow_analysis.specs.Graph.{Triple, Graph, Given, graphOf, checkAsked, checkGraphs}
+use Rattle.borrow_analysis.specs.declared.triples.Triple.{Triple}
+use Rattle.borrow_analysis.specs.Graph.{Graph, GraphInput, graphOf, checkAsked, checkGraphs}
 
 -- ---- the triples that lead to a node
 
@@ -54,36 +55,47 @@ isConditional g n = holds (above g (manyIn (g .count) 0 (g .triples))) n
 
 -- ---- dying
 
--- the nodes seen, as a mask and in the order of the visits
-pub record Seen : Type 0 where
+-- the nodes visited, as a mask and in the order of the visits
+pub record VisitedNodes : Type 0 where
   pub mask : ℕ
   pub listed : List ℕ
 
--- n and then, depth first, its parents, where not seen and not in `used`; at most d deep
-unfoldable pub collectAncestors : ℕ → List Triple → ℕ → Seen → ℕ → Seen
+abbrev pub noneVisited : VisitedNodes
+noneVisited = record { mask = 0; listed = [] }
+
+-- n is visited and listed
+abbrev pub listNode : VisitedNodes → ℕ → VisitedNodes
+listNode st n = record { mask = union (2 ^ n) (st .mask); listed = st .listed ++ (n ∷ []) }
+
+-- n and then, depth first, its parents, where not visited and not in `used`; at most d deep
+unfoldable pub collectAncestors : ℕ → List Triple → ℕ → VisitedNodes → ℕ → VisitedNodes
 collectAncestors zero ts used st n = st
 collectAncestors (suc d) ts used st n =
     elim (holds (st .mask) n || holds used n) [
       | true ↦ st
-      | false ↦ over (collectAncestors d ts used) (record { mask = union (2 ^ n) (st .mask); listed = st .listed ++ (n ∷ []) }) (getParents ts n)
+      | false ↦ over (collectAncestors d ts used) (listNode st n) (getParents ts n)
     ]
 
--- the nodes that die from this graph to the next, in the order of the visits: from each node that is live here, ascending, where not in use there
-unfoldable pub dyingNodes : Graph → Graph → List ℕ
-dyingNodes here next =
-    over (collectAncestors (here .count) (here .triples) (above next (next .live))) (record { mask = 0; listed = [] })
+-- the nodes that die from this graph to the next, in the order of the visits: from each node that is live here, ascending, where not in use there; at most d deep
+unfoldable pub dyingNodesAt : ℕ → Graph → Graph → List ℕ
+dyingNodesAt d here next =
+    over (collectAncestors d (here .triples) (above next (next .live))) noneVisited
     (keep (here .count) 0 (holds (here .live)))
     .listed
 
+-- as deep as there are nodes; any greater depth gives the same list (DyingList, `order`)
+unfoldable pub dyingNodes : Graph → Graph → List ℕ
+dyingNodes here next = dyingNodesAt (here .count) here next
+
 -- ---- the calls: yes is 1, no is 0; the count of dying nodes and a byte for each, where so many bytes are lent
 
-unfoldable pub inUseReply : Given → ℕ → Reply
-inUseReply g node = reply (checkAsked g node) 0 0 (Done (cond (isInUse (graphOf g) node) 1 0) [])
+unfoldable pub inUseReply : GraphInput → ℕ → Reply
+inUseReply g node = reply (checkAsked g node) (Done (cond (isInUse (graphOf g) node) 1 0) [])
 
-unfoldable pub conditionalReply : Given → ℕ → Reply
-conditionalReply g node = reply (checkAsked g node) 0 0 (Done (cond (isConditional (graphOf g) node) 1 0) [])
+unfoldable pub conditionalReply : GraphInput → ℕ → Reply
+conditionalReply g node = reply (checkAsked g node) (Done (cond (isConditional (graphOf g) node) 1 0) [])
 
-unfoldable pub dyingReply : Given → Given → ℕ → Reply
+unfoldable pub dyingReply : GraphInput → GraphInput → ℕ → Reply
 dyingReply here next lent =
     let listed = dyingNodes (graphOf here) (graphOf next) in
-    reply (checkGraphs here next) lent (here .count) (Done (length listed) listed)
+    reply (checkGraphs here next then lends lent (here .count)) (Done (length listed) listed)

@@ -6,18 +6,23 @@ use Prim.Native.Nat.{ℕ, zero, suc, _+_, _^_, _≤_, _<_}
 use native.Mathlib.Nat.{zero-add}
 use native.Mathlib.Numerals.{add-one}
 use native.Mathlib.Omega.{arith}
-use borrow.Author.Tests.{lt-ltb, le-ltb, eq-eqb, ne-eqb, ltb-true, ltb-false}
+use borrow.Author.Tests.{lt-ltb, le-ltb, eq-eqb, ne-eqb}
 use lib.Dec.{eqb, ltb}
+use lib.ListN.{getD, set, length, replicate, getD-replicate}
+use lib.Seq.{getD-set-same, getD-set-other}
+use Rattle.base.specs.Sizes.{maxLocals}
+use mathlib.Core.Logic.{_⊎_, inl, inr, ⊎-elim}
 use lib.Pow.{pow-lt, pow-pos}
 use Rattle.base.specs.Lists.{tab}
 use Rattle.base.specs.ListLaws.{by-test, by-eq}
 use Rattle.base.specs.JoinLaws.{by-lt}
 use Rattle.base.specs.TabLaws.{tab-last}
 use Rattle.dataflow_domains.specs.Mask.{holds, union}
-use Rattle.dataflow_domains.specs.MaskLaws.{same-holds, holds-insert, holds-insert-other, bit-empty, bit-self, union-lt, holds-union, true-holds, false-holds, bit-other}
-use Rattle.borrow_analysis.specs.Graph.{Triple}
+use Rattle.dataflow_domains.specs.MaskLaws.{bit-empty, bit-self, union-lt, bit-other}
+use Rattle.dataflow_domains.specs.HoldsLaws.{same-holds, holds-insert, holds-insert-other, holds-union, true-holds, false-holds}
+use Rattle.borrow_analysis.specs.declared.triples.Triple.{Triple}
 use Rattle.borrow_analysis.specs.Borrows.{incoming, manyIn}
-use Rattle.borrow_analysis.specs.Parts.{Many}
+use Rattle.borrow_analysis.specs.GraphParts.{ManyIncoming, IncomingCounted}
 
 -- ---- how many lead to a node
 
@@ -38,35 +43,33 @@ unfolding incoming
 incoming-other xs t k g =
     incoming-append xs (t ∷ []) k ∙ ap (λ (b : Bool). incoming xs k + cond b 1 0) (ne-eqb (t .child) k (λ e. g (sym e))) ∙ omega arith
 
--- `once` are those to which at least one leads, and `many` those to which more than one does
-pub record Counted (ts : List Triple) (once many : ℕ) : Type 0 where
-  pub one : (k : ℕ) → holds once k ≡ ltb 0 (incoming ts k)
-  pub two : (k : ℕ) → holds many k ≡ ltb 1 (incoming ts k)
-
-pub counted-none : (f : ℕ → Triple) {a b : ℕ} → a ≡ 0 → b ≡ 0 → Counted (tab 0 0 f) a b
+pub counted-none : (f : ℕ → Triple) (n : ℕ) {many : ℕ} → many ≡ 0 → IncomingCounted (tab 0 0 f) n 0 (replicate maxLocals n) many
 unfolding incoming tab
-counted-none f p q = rw (p, q) (record { one = λ k. false-holds 0 k (bit-empty k); two = λ k. false-holds 0 k (bit-empty k) })
+counted-none f n e = rw e (record { one = λ k l. inl (getD-replicate maxLocals k n 0 l, refl); two = λ k. false-holds 0 k (bit-empty k) })
 
-module _ (ts : List Triple) (t : Triple) {once many : ℕ} (w : Counted ts once many) where
-  counted-one : (k : ℕ) → holds (union once (2 ^ t .child)) k ≡ ltb 0 (incoming (ts ++ (t ∷ [])) k)
-  counted-one k =
+module _ (ts : List Triple) (t : Triple) (n i : ℕ) (last : List ℕ) {many : ℕ} (w : IncomingCounted ts n i last many) (size : length last ≡ maxLocals) (low : t .child < maxLocals) where
+  counted-one : (k : ℕ) → k < maxLocals
+      → ((getD (set last (t .child) i) k 0 ≡ n) × (incoming (ts ++ (t ∷ [])) k ≡ 0)) ⊎ ((getD (set last (t .child) i) k 0 < suc i) × (0 < incoming (ts ++ (t ∷ [])) k))
+  counted-one k h =
       by-eq k (t .child)
-      (λ s. subst (λ (j : ℕ). holds (union once (2 ^ t .child)) j ≡ ltb 0 (incoming (ts ++ (t ∷ [])) j)) (sym s)
-      (holds-insert once (t .child) ∙ sym (lt-ltb 0 (incoming (ts ++ (t ∷ [])) (t .child)) (omega (arith, incoming-here ts t)))))
-      (λ g. holds-insert-other once (t .child) k g ∙ w .one k ∙ ap (ltb 0) (sym (incoming-other ts t k g)))
+      (λ s. inr (omega (arith, ap (λ (j : ℕ). getD (set last (t .child) i) j 0) s, getD-set-same last (t .child) i 0 (omega arith)), omega (arith, ap (incoming (ts ++ (t ∷ []))) s, incoming-here ts t)))
+      (λ g. let same : getD (set last (t .child) i) k 0 ≡ getD last k 0 = getD-set-other last (t .child) k i 0 g in
+      let other : incoming (ts ++ (t ∷ [])) k ≡ incoming ts k = incoming-other ts t k g in
+      ⊎-elim (λ x. inl (same ∙ x .0, other ∙ x .1)) (λ x. inr (omega (arith, same, x .0), omega (arith, other, x .1))) (w .one k h))
 
-  counted-again : holds once (t .child) ≡ true → Counted (ts ++ (t ∷ [])) (union once (2 ^ t .child)) (union many (2 ^ t .child))
-  counted-again e = record {
+  -- one before it leads to its child; none does
+  counted-again : i < n → getD last (t .child) 0 < i → IncomingCounted (ts ++ (t ∷ [])) n (suc i) (set last (t .child) i) (union many (2 ^ t .child))
+  counted-again l e = record {
     one = counted-one;
     two = λ k. by-eq k (t .child)
         (λ s. subst (λ (j : ℕ). holds (union many (2 ^ t .child)) j ≡ ltb 1 (incoming (ts ++ (t ∷ [])) j)) (sym s)
-        (holds-insert many (t .child) ∙ sym (lt-ltb 1 (incoming (ts ++ (t ∷ [])) (t .child)) (omega (arith, incoming-here ts t, ltb-true 0 (incoming ts (t .child)) (sym (w .one (t .child)) ∙ e))))))
+        (holds-insert many (t .child) ∙ sym (lt-ltb 1 (incoming (ts ++ (t ∷ [])) (t .child)) (⊎-elim (λ x. absurd (omega (arith, x .0))) (λ x. omega (arith, x .1, incoming-here ts t)) (w .one (t .child) low)))))
         (λ g. holds-insert-other many (t .child) k g ∙ w .two k ∙ ap (ltb 1) (sym (incoming-other ts t k g)));
   }
 
-  counted-first : holds once (t .child) ≡ false → Counted (ts ++ (t ∷ [])) (union once (2 ^ t .child)) many
+  counted-first : i ≤ getD last (t .child) 0 → IncomingCounted (ts ++ (t ∷ [])) n (suc i) (set last (t .child) i) many
   counted-first e =
-      let none : incoming ts (t .child) ≤ 0 = ltb-false 0 (incoming ts (t .child)) (sym (w .one (t .child)) ∙ e) in
+      let none : incoming ts (t .child) ≡ 0 = ⊎-elim (λ x. x .1) (λ x. absurd (omega (arith, x .0))) (w .one (t .child) low) in
       record {
         one = counted-one;
         two = λ k. by-eq k (t .child)
@@ -75,18 +78,21 @@ module _ (ts : List Triple) (t : Triple) {once many : ℕ} (w : Counted ts once 
             (λ g. w .two k ∙ ap (ltb 1) (sym (incoming-other ts t k g)));
       }
 
--- triple i leads to k, and b says whether one before it does
-module _ (f : ℕ → Triple) {i k once many one two : ℕ} {b : Bool} (w : Counted (tab i 0 f) once many) (child : k ≡ f i .child) (test : b ≡ holds once k) (e : one ≡ union once (2 ^ k)) where
-  pub counted-more : b ≡ true → two ≡ union many (2 ^ k) → Counted (tab (i + 1) 0 f) one two
-  counted-more t d =
-      rw (tab-last i f, e, d, child) (counted-again (tab i 0 f) (f i) w (ap (holds once) (sym child) ∙ sym test ∙ t))
+-- triple i, at place p, leads to k, which is noted at a
+module _ (f : ℕ → Triple) {n i k a p many two : ℕ} {last new : List ℕ} (w : IncomingCounted (tab i 0 f) n i last many) (size : length last ≡ maxLocals) (low : k < maxLocals)
+    (child : k ≡ f i .child) (at : a ≡ k) (place : p ≡ i) (e : new ≡ set last a p) where
+  pub counted-more : i < n → getD last a 0 < p → two ≡ union many (2 ^ k) → IncomingCounted (tab (i + 1) 0 f) n (i + 1) new two
+  counted-more l b d =
+      rw (tab-last i f, add-one i, e, d, at, place, child)
+      (counted-again (tab i 0 f) (f i) n i last w size (subst (λ (x : ℕ). x < maxLocals) child low) l (subst (λ (x : ℕ). getD last x 0 < i) (at ∙ child) (subst (λ (x : ℕ). getD last a 0 < x) place b)))
 
-  pub counted-new : b ≡ false → two ≡ many → Counted (tab (i + 1) 0 f) one two
-  counted-new t d =
-      rw (tab-last i f, e, d, child) (counted-first (tab i 0 f) (f i) w (ap (holds once) (sym child) ∙ sym test ∙ t))
+  pub counted-new : p ≤ getD last a 0 → two ≡ many → IncomingCounted (tab (i + 1) 0 f) n (i + 1) new two
+  counted-new b d =
+      rw (tab-last i f, add-one i, e, d, at, place, child)
+      (counted-first (tab i 0 f) (f i) n i last w size (subst (λ (x : ℕ). x < maxLocals) child low) (subst (λ (x : ℕ). i ≤ getD last x 0) (at ∙ child) (subst (λ (x : ℕ). x ≤ getD last a 0) place b)))
 
-pub counted-all : (f : ℕ → Triple) {n i once many : ℕ} → i ≡ n → Counted (tab i 0 f) once many → Many (tab n 0 f) many
-counted-all f {n} {i} {once} {many} e w = record { each = λ k. w .two k ∙ ap (λ (j : ℕ). ltb 1 (incoming (tab j 0 f) k)) e }
+pub counted-all : (f : ℕ → Triple) {n i many : ℕ} {last : List ℕ} → i ≡ n → IncomingCounted (tab i 0 f) n i last many → ManyIncoming (tab n 0 f) many
+counted-all f {n} {i} {many} e w = record { each = λ k. w .two k ∙ ap (λ (j : ℕ). ltb 1 (incoming (tab j 0 f) k)) e }
 
 -- ---- those of the nodes below c, as a mask: all of them, where the triples lead to no other
 
@@ -129,7 +135,7 @@ many-bits (suc n) k j ts l h =
     or-none false = refl
 
 -- the loop's set is the definition's
-pub many-is : (c m : ℕ) (ts : List Triple) → Many ts m → ((j : ℕ) → c ≤ j → incoming ts j ≡ 0) → m ≡ manyIn c 0 ts
+pub many-is : (c m : ℕ) (ts : List Triple) → ManyIncoming ts m → ((j : ℕ) → c ≤ j → incoming ts j ≡ 0) → m ≡ manyIn c 0 ts
 many-is c m ts w h =
     same-holds m (manyIn c 0 ts)
     (λ j. w .each j ∙ by-lt j c (λ l. sym (many-bits c 0 j ts (omega arith) (omega arith)))

@@ -9,53 +9,50 @@ use Rattle.base.specs.Lists.{tab}
 use Rattle.base.specs.TabLaws.{tab-more, tab-end}
 use Rattle.dataflow_domains.specs.Mask.{holds, union, Sub}
 use Rattle.dataflow_domains.specs.MaskLaws.{union-comm, union-assoc, none-union, sub-refl, sub-trans, sub-union-l, union-of-sub}
-use Rattle.borrow_analysis.specs.Graph.{Triple}
+use Rattle.borrow_analysis.specs.declared.triples.Triple.{Triple}
 use Rattle.borrow_analysis.specs.Borrows.{parentsIn, upward}
+use Rattle.borrow_analysis.specs.GraphParts.{ParentsAdded}
 use Rattle.borrow_analysis.specs.BorrowLaws.{parents-has}
 
--- ---- one turn up: g has m and the parents by the first i triples
-
-pub record Growing (f : ℕ → Triple) (n m i g : ℕ) : Type 0 where
-  pub has : Sub m g
-  pub rest : parentsIn (tab n 0 f) m ≡ union g (parentsIn (tab (n - i) i f) m)
+-- ---- one turn up
 
 module _ (f : ℕ → Triple) (n m : ℕ) where
-  pub growing-none : Growing f n m 0 m
-  growing-none = record {
+  pub added-none : ParentsAdded f n m 0 m
+  added-none = record {
     has = sub-refl m;
     rest = ap (λ (j : ℕ). parentsIn (tab j 0 f) m) (sym (sub-zero n))
         ∙ sym (union-comm m (parentsIn (tab (n - 0) 0 f) m) ∙ union-of-sub (parents-has (tab (n - 0) 0 f) m));
   }
 
-  parents-more : (i : ℕ) → i < n → parentsIn (tab (n - i) i f) m ≡ union (cond (holds m (f i .child)) (2 ^ f i .parent) 0) (parentsIn (tab (n - (i + 1)) (i + 1) f) m)
+  turn-more : (i : ℕ) → i < n → parentsIn (tab (n - i) i f) m ≡ union (cond (holds m (f i .child)) (2 ^ f i .parent) 0) (parentsIn (tab (n - (i + 1)) (i + 1) f) m)
   unfolding parentsIn
-  parents-more i h = ap (λ (ts : List Triple). parentsIn ts m) (tab-more n i f h)
+  turn-more i h = ap (λ (ts : List Triple). parentsIn ts m) (tab-more n i f h)
 
   -- triple i has child k and parent p, and b says whether m has k
-  pub growing-more : {i g h k p : ℕ} {b : Bool} → i < n → Growing f n m i g → k ≡ f i .child → b ≡ holds m k → b ≡ true → p ≡ f i .parent → h ≡ union g (2 ^ p) → Growing f n m (i + 1) h
-  growing-more {i} {g} {h} {k} {p} {b} l w child test t parent e =
+  pub added-more : {i g h k p : ℕ} {b : Bool} → i < n → ParentsAdded f n m i g → k ≡ f i .child → b ≡ holds m k → b ≡ true → p ≡ f i .parent → h ≡ union g (2 ^ p) → ParentsAdded f n m (i + 1) h
+  added-more {i} {g} {h} {k} {p} {b} l w child test t parent e =
       let rest = parentsIn (tab (n - (i + 1)) (i + 1) f) m in
       let grown : h ≡ union g (2 ^ f i .parent) = e ∙ ap (λ (x : ℕ). union g (2 ^ x)) parent in
       let here : holds m (f i .child) ≡ true = ap (holds m) (sym child) ∙ sym test ∙ t in
       record {
         has = subst (λ (x : ℕ). Sub m x) (sym grown) (sub-trans (w .has) (sub-union-l g (2 ^ f i .parent)));
-        rest = w .rest ∙ ap (union g) (parents-more i l ∙ ap (λ (q : Bool). union (cond q (2 ^ f i .parent) 0) rest) here)
+        rest = w .rest ∙ ap (union g) (turn-more i l ∙ ap (λ (q : Bool). union (cond q (2 ^ f i .parent) 0) rest) here)
             ∙ sym (union-assoc g (2 ^ f i .parent) rest) ∙ ap (λ (x : ℕ). union x rest) (sym grown);
       }
 
-  pub growing-same : {i g h k : ℕ} {b : Bool} → i < n → Growing f n m i g → k ≡ f i .child → b ≡ holds m k → b ≡ false → h ≡ g → Growing f n m (i + 1) h
-  growing-same {i} {g} {h} {k} {b} l w child test t e =
+  pub added-same : {i g h k : ℕ} {b : Bool} → i < n → ParentsAdded f n m i g → k ≡ f i .child → b ≡ holds m k → b ≡ false → h ≡ g → ParentsAdded f n m (i + 1) h
+  added-same {i} {g} {h} {k} {b} l w child test t e =
       let rest = parentsIn (tab (n - (i + 1)) (i + 1) f) m in
       let here : holds m (f i .child) ≡ false = ap (holds m) (sym child) ∙ sym test ∙ t in
       record {
         has = subst (λ (x : ℕ). Sub m x) (sym e) (w .has);
-        rest = w .rest ∙ ap (union g) (parents-more i l ∙ ap (λ (q : Bool). union (cond q (2 ^ f i .parent) 0) rest) here ∙ none-union rest)
+        rest = w .rest ∙ ap (union g) (turn-more i l ∙ ap (λ (q : Bool). union (cond q (2 ^ f i .parent) 0) rest) here ∙ none-union rest)
             ∙ ap (λ (x : ℕ). union x rest) (sym e);
       }
 
-  pub growing-all : (i g : ℕ) → n ≤ i → Growing f n m i g → g ≡ parentsIn (tab n 0 f) m
+  pub added-all : (i g : ℕ) → n ≤ i → ParentsAdded f n m i g → g ≡ parentsIn (tab n 0 f) m
   unfolding parentsIn
-  growing-all i g h w = sym (w .rest ∙ ap (λ (ts : List Triple). union g (parentsIn ts m)) (tab-end n i f h) ∙ union-of-sub (w .has))
+  added-all i g h w = sym (w .rest ∙ ap (λ (ts : List Triple). union g (parentsIn ts m)) (tab-end n i f h) ∙ union-of-sub (w .has))
 
 -- ---- turn after turn
 

@@ -1,7 +1,6 @@
 // The visits of dying nodes: a node, then its parents, depth first. Assumes nothing.
 ghost use mathlib.Core.Path.{_≡_};
 ghost use mathlib.Core.Bool.{_||_};
-ghost use mathlib.Core.List.{[]};
 ghost use Prim.Native.Nat.{_+_, _^_, _<_, _≤_};
 ghost use lib.ListN.{length, set};
 ghost use Rattle.base.specs.Sizes.{maxLocals};
@@ -10,10 +9,10 @@ ghost use Rattle.dataflow_domains.specs.Mask.{holds, union};
 ghost use Rattle.dataflow_domains.specs.Members.{members};
 ghost use Rattle.dataflow_domains.specs.Sets.{mask};
 ghost use Rattle.borrow_analysis.specs.Graph.{triplesOf};
-ghost use Rattle.borrow_analysis.specs.Borrows.{collectAncestors};
-ghost use Rattle.borrow_analysis.specs.Parts.{Inside, seenOf, Room, Came};
-use crate::triples::child_at;
-use crate::triples::parent_at;
+ghost use Rattle.borrow_analysis.specs.Borrows.{noneVisited, collectAncestors};
+ghost use Rattle.borrow_analysis.specs.GraphParts.{NodesBelow};
+ghost use Rattle.borrow_analysis.specs.Visiting.{visitedOf, VisitedBelow, VisitsWritten};
+use crate::triples::lead_at;
 use dataflow_domains::LiveVarState;
 
 // The nodes visited, and how many are listed.
@@ -56,8 +55,8 @@ pub fn collect_ancestors(
     depth: usize,
     out: &mut [u8],
 ) -> Visited
-    requires { ⌜ Inside maxLocals (now triples) × Inside (length (now out)) (now triples) × Room (length (now out)) (mask (seen .nodes)) (seen .count) × (node < maxLocals) × (node < length (now out)) ⌝ }
-    ensures { λ r. ⌜ Came (collectAncestors depth (triplesOf (now (triples .entry))) (mask used) (seenOf (mask (seen .nodes)) (seen .count) (now (out .entry))) node) (mask (r .nodes)) (r .count) (now (out .entry)) (now (out .exit)) ⌝ }
+    requires { ⌜ NodesBelow maxLocals (now triples) × NodesBelow (length (now out)) (now triples) × VisitedBelow (length (now out)) (mask (seen .nodes)) (seen .count) × (node < maxLocals) × (node < length (now out)) ⌝ }
+    ensures { λ r. ⌜ VisitsWritten (collectAncestors depth (triplesOf (now (triples .entry))) (mask used) (visitedOf (mask (seen .nodes)) (seen .count) (now (out .entry))) node) (mask (r .nodes)) (r .count) (now (out .entry)) (now (out .exit)) ⌝ }
 {
     if depth == 0 {
         return seen;
@@ -67,12 +66,14 @@ pub fn collect_ancestors(
     }
     let mut done = list(seen, node, out);
     let n = triples.len() / 3;
-    let mut i = 0;
-    while i < n {
-        if child_at(triples, i) == node {
-            done = collect_ancestors(triples, used, done, parent_at(triples, i), depth - 1, out);
+    let mut left = n;
+    while left > 0 {
+        let i = n - left;
+        let lead = lead_at(triples, i);
+        if lead.child == node {
+            done = collect_ancestors(triples, used, done, lead.parent as u8, depth - 1, out);
         }
-        i += 1;
+        left -= 1;
     }
     done
 }
@@ -85,8 +86,8 @@ pub fn collect_from(
     depth: usize,
     out: &mut [u8],
 ) -> Visited
-    requires { ⌜ Inside depth (now triples) × (depth ≤ maxLocals) × (depth ≤ length (now out)) × (mask from < 2 ^ depth) ⌝ }
-    ensures { λ r. ⌜ Came (over (collectAncestors depth (triplesOf (now (triples .entry))) (mask used)) (record { mask = 0; listed = [] }) (members depth (mask from))) (mask (r .nodes)) (r .count) (now (out .entry)) (now (out .exit)) × (r .count ≤ depth) ⌝ }
+    requires { ⌜ NodesBelow depth (now triples) × (depth ≤ maxLocals) × (depth ≤ length (now out)) × (mask from < 2 ^ depth) ⌝ }
+    ensures { λ r. ⌜ VisitsWritten (over (collectAncestors depth (triplesOf (now (triples .entry))) (mask used)) noneVisited (members depth (mask from))) (mask (r .nodes)) (r .count) (now (out .entry)) (now (out .exit)) × (r .count ≤ depth) ⌝ }
 {
     let mut seen = Visited {
         nodes: LiveVarState::empty(),

@@ -1,47 +1,59 @@
 // Borrow graphs: in use, conditional and dying nodes. Assumes nothing.
 ghost use mathlib.Core.Path.{_≡_};
-ghost use lib.ListN.{length};
-ghost use Rattle.base.specs.Refusals.{resultOf, left};
-ghost use Rattle.borrow_analysis.specs.Graph.{given};
+ghost use mathlib.Core.Bool.{cond};
+ghost use lib.Dec.{eqb};
+ghost use lib.ListN.{length, take};
+ghost use Rattle.base.specs.Refusals.{resultOf, answerOf, outputAfter};
+ghost use Rattle.borrow_analysis.specs.Graph.{graphInput, graphOf};
 ghost use Rattle.borrow_analysis.specs.Borrows.{inUseReply, conditionalReply, dyingReply};
-ghost use Rattle.borrow_analysis.specs.Answers.{askedOf, dyingOf};
+ghost use Rattle.borrow_analysis.specs.Meaning.{InUse, Conditional, DyingList, Decides};
 use crate::ancestors::collect_from;
-pub use crate::answers::Asked;
-pub use crate::answers::Dying;
-use crate::graph::Checked;
 use crate::graph::check_asked;
 use crate::graph::check_graphs;
 use crate::graph::live_set;
 use crate::triples::many_in;
 use crate::upward::above;
+use base::Answer;
+use base::Checked;
 use base::Refusal;
 
-pub mod answers; // answers.rt: what the calls answer
 pub mod graph; // graph.rt: the live nodes as a set, and checks 12 to 14
-pub mod triples; // triples.rt: the triples of an accepted graph
+pub mod triples; // triples.rt: the triples of a graph
 pub mod upward; // upward.rt: up from a set of nodes
 pub mod ancestors; // ancestors.rt: the visits of dying nodes
 
-// Whether a node or a descendant of it is live.
-pub fn in_use(nodes: u32, live: u64, triples: &[u32], node: u32) -> Asked
-    ensures { λ r. ⌜ askedOf r ≡ resultOf (inUseReply (given nodes live (now (triples .entry))) node) ⌝ }
+// Yes is 1, no is 0.
+fn yes_or_no(yes: bool) -> Answer
+    ensures { λ r. ⌜ answerOf r ≡ record { number = 0; value = cond yes 1 0 } ⌝ }
 {
-    if let Checked::Refused(r) = check_asked(nodes, live, triples, node) {
-        return Asked::Refused(r);
+    if yes {
+        return Answer::Value(1);
+    }
+    Answer::Value(0)
+}
+
+// Whether a node or a descendant of it is live.
+pub fn in_use(nodes: u32, live: u64, triples: &[u32], node: u32) -> Answer
+    ensures result { λ r. ⌜ answerOf r ≡ resultOf (inUseReply (graphInput nodes live (now (triples .entry))) node) ⌝ }
+    ensures means { λ r. ⌜ (answerOf r .number ≡ 0 → Decides (eqb (answerOf r .value) 1) (InUse (graphOf (graphInput nodes live (now (triples .entry)))) node)) ⌝ }
+{
+    if let Checked::Refused(f) = check_asked(nodes, live, triples, node) {
+        return Answer::Refused(f);
     }
     let used = above(triples, live_set(live), nodes as usize);
-    Asked::of(used.has(node as u8))
+    yes_or_no(used.has(node as u8))
 }
 
 // Whether more than one triple leads to a node or to a descendant of it.
-pub fn conditional(nodes: u32, live: u64, triples: &[u32], node: u32) -> Asked
-    ensures { λ r. ⌜ askedOf r ≡ resultOf (conditionalReply (given nodes live (now (triples .entry))) node) ⌝ }
+pub fn conditional(nodes: u32, live: u64, triples: &[u32], node: u32) -> Answer
+    ensures result { λ r. ⌜ answerOf r ≡ resultOf (conditionalReply (graphInput nodes live (now (triples .entry))) node) ⌝ }
+    ensures means { λ r. ⌜ (answerOf r .number ≡ 0 → Decides (eqb (answerOf r .value) 1) (Conditional (graphOf (graphInput nodes live (now (triples .entry)))) node)) ⌝ }
 {
-    if let Checked::Refused(r) = check_asked(nodes, live, triples, node) {
-        return Asked::Refused(r);
+    if let Checked::Refused(f) = check_asked(nodes, live, triples, node) {
+        return Answer::Refused(f);
     }
     let conditionals = above(triples, many_in(triples), nodes as usize);
-    Asked::of(conditionals.has(node as u8))
+    yes_or_no(conditionals.has(node as u8))
 }
 
 // The nodes that die from this graph to the next: how many, and each as one lent byte.
@@ -53,11 +65,12 @@ pub fn dying(
     next_live: u64,
     next_triples: &[u32],
     out: &mut [u8],
-) -> Dying
-    ensures answer { λ r. ⌜ dyingOf r ≡ resultOf (dyingReply (given nodes live (now (triples .entry))) (given «next_nodes» «next_live» (now («next_triples» .entry))) (length (now (out .entry)))) ⌝ }
-    ensures written { λ r. ⌜ now (out .exit) ≡ left (dyingReply (given nodes live (now (triples .entry))) (given «next_nodes» «next_live» (now («next_triples» .entry))) (length (now (out .entry)))) (now (out .entry)) ⌝ }
+) -> Answer
+    ensures result { λ r. ⌜ answerOf r ≡ resultOf (dyingReply (graphInput nodes live (now (triples .entry))) (graphInput «next_nodes» «next_live» (now («next_triples» .entry))) (length (now (out .entry)))) ⌝ }
+    ensures written { λ _. ⌜ now (out .exit) ≡ outputAfter (dyingReply (graphInput nodes live (now (triples .entry))) (graphInput «next_nodes» «next_live» (now («next_triples» .entry))) (length (now (out .entry)))) (now (out .entry)) ⌝ }
+    ensures means { λ r. ⌜ (answerOf r .number ≡ 0 → DyingList (graphOf (graphInput nodes live (now (triples .entry)))) (graphOf (graphInput «next_nodes» «next_live» (now («next_triples» .entry)))) (take (answerOf r .value) (now (out .exit)))) ⌝ }
 {
-    if let Checked::Refused(r) = check_graphs(
+    if let Checked::Refused(f) = check_graphs(
         nodes,
         live,
         triples,
@@ -65,12 +78,14 @@ pub fn dying(
         next_live,
         next_triples,
     ) {
-        return Dying::Refused(r);
+        return Answer::Refused(f);
     }
-    if out.len() < nodes as usize {
-        return Dying::Refused(Refusal::OutputShort);
+    let count = nodes as usize;
+    let lent = out.len();
+    if lent < count {
+        return Answer::Refused(Refusal::OutputShort);
     }
     let used = above(next_triples, live_set(next_live), next_nodes as usize);
-    let seen = collect_from(triples, used, live_set(live), nodes as usize, out);
-    Dying::Count(seen.count as u32)
+    let seen = collect_from(triples, used, live_set(live), count, out);
+    Answer::Value(seen.count as u32)
 }

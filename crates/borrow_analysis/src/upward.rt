@@ -4,22 +4,22 @@ ghost use Rattle.base.specs.Sizes.{maxLocals};
 ghost use Rattle.dataflow_domains.specs.Sets.{mask};
 ghost use Rattle.borrow_analysis.specs.Graph.{triplesOf};
 ghost use Rattle.borrow_analysis.specs.Borrows.{parentsIn, upward};
-ghost use Rattle.borrow_analysis.specs.Parts.{Inside};
-use crate::triples::child_at;
-use crate::triples::parent_at;
+ghost use Rattle.borrow_analysis.specs.GraphParts.{NodesBelow};
+use crate::triples::lead_at;
 use dataflow_domains::LiveVarState;
 
 // A set with the parents, over one triple, of its nodes.
 fn parents_in(triples: &[u32], set: LiveVarState) -> LiveVarState
-    requires { ⌜ Inside maxLocals (now triples) ⌝ }
+    requires { ⌜ NodesBelow maxLocals (now triples) ⌝ }
     ensures { λ r. ⌜ mask r ≡ parentsIn (triplesOf (now (triples .entry))) (mask set) ⌝ }
 {
     let n = triples.len() / 3;
     let mut grown = set;
     let mut i = 0;
     while i < n {
-        if set.has(child_at(triples, i)) {
-            grown = grown.insert(parent_at(triples, i));
+        let lead = lead_at(triples, i);
+        if set.has(lead.child) {
+            grown = grown.insert(lead.parent as u8);
         }
         i += 1;
     }
@@ -28,7 +28,7 @@ fn parents_in(triples: &[u32], set: LiveVarState) -> LiveVarState
 
 // The nodes that are in a set or have a descendant in it, at most `times` triples away. Where one turn adds none, no other does.
 pub fn above(triples: &[u32], set: LiveVarState, times: usize) -> LiveVarState
-    requires { ⌜ Inside maxLocals (now triples) ⌝ }
+    requires { ⌜ NodesBelow maxLocals (now triples) ⌝ }
     ensures { λ r. ⌜ mask r ≡ upward times (triplesOf (now (triples .entry))) (mask set) ⌝ }
 {
     let mut reached = set;

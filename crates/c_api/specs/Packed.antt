@@ -10,4 +10,4 @@ packed r = r .number * 4294967296 + r .value
 
 -- the checks alone: 0 where they accept
 unfoldable pub checkReply : List ℕ → Reply
-checkReply s = reply (checkSheet s) 0 0 (Done 0 [])
+checkReply s = reply (checkSheet s) (Done 0 [])

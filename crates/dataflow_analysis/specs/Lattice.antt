@@ -1,7 +1,9 @@
--- What a work list hands on: values that are joined. Sets of locals are one kind (MaskList); `both` puts two kinds together. Assumes nothing.
+-- What a work list hands on: values that are joined. Sets of locals are one kind (`masks`); `both` puts two kinds together. Assumes nothing.
 use mathlib.Core.Path.{_≡_}
 use mathlib.Core.Bool.{Bool, true, false, _&&_}
 use Prim.Native.Nat.{ℕ, _≤_, _<_}
+use lib.Dec.{eqb}
+use Rattle.dataflow_domains.specs.Mask.{union}
 
 -- the values, the least of them, the join of two, and the test whether a join has no more than the first
 pub record Lattice : Type 1 where
@@ -9,6 +11,10 @@ pub record Lattice : Type 1 where
   pub none : Value
   pub join : Value → Value → Value
   pub same : Value → Value → Bool
+
+-- sets of locals, joined by union
+abbrev pub masks : Lattice
+masks = record { Value = ℕ; none = 0; join = union; same = eqb }
 
 -- the order: a join is the least value above both, and the test says whether the second was below the first. Values below each other need not be equal
 pub record Laws (L : Lattice) : Type 1 where

@@ -42,6 +42,7 @@ module _ {K L : Lattice} (V′ : Laws K) (W : Laws L) where
       go true q e = omega (arith, l, T′ .size-grows (a .right) (b .right) ar br e)
       go false q e = omega (arith, r, S .size-grows (a .left) (b .left) al bl q)
 
+  -- for request E10, which runs the list over two kinds of values together
   abbrev pub both-bounded : {s : K .Value} {t : L .Value} → Bounded V′ s → Bounded W t → Bounded both-laws (record { left = s; right = t })
   both-bounded S T′ = record {
     size = λ a. S .size (a .left) + T′ .size (a .right);

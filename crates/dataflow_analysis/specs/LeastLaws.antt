@@ -5,7 +5,8 @@ use Prim.Native.Nat.{ℕ, _+_, _*_, _≤_, _<_}
 use Rattle.base.specs.ListLaws.{by-eq}
 use Rattle.dataflow_analysis.specs.Lattice.{Lattice, Laws, Bounded}
 use Rattle.dataflow_analysis.specs.Worklist.{State, setAt, Met, joined, receive, begin, popped, step, run}
-use Rattle.dataflow_analysis.specs.WorklistLaws.{Ok, Graph, Under, Narrow, Ended, by-news, joined-grows, joined-set, joined-set-other, receive-grows, over-keeps, met-first, popped-ok, step-ok, step-within, run-keeps, begin-ok, begin-under, ends}
+use Rattle.dataflow_analysis.specs.WorklistLaws.{Graph, Under, Narrow, Ended, met-first, popped-ok, step-ok, step-within, run-keeps, begin-under, ends}
+use Rattle.dataflow_analysis.specs.ReceiveLaws.{Ok, by-news, joined-grows, joined-set, joined-set-other, receive-grows, over-keeps, begin-ok}
 
 module _ {L : Lattice} (W : Laws L) (leads : ℕ → List ℕ) (out : ℕ → L .Value → L .Value) where
   abbrev A : Type 0
@@ -89,7 +90,7 @@ module _ {L : Lattice} (W : Laws L) (leads : ℕ → List ℕ) (out : ℕ → L 
         run-keeps W leads out Exactly
         (λ st k ks e v. record { ok = step-ok W leads out n graph st k ks e (v .ok); exact = step-exact mono n graph st k ks e (v .ok) (v .exact) })
         fuel (begin n start)
-        (record { ok = begin-ok W leads out n start inside; exact = record { each = λ p c above. begin-under W leads out n start inside (λ j. c) .each p } })
+        (record { ok = begin-ok W n start inside; exact = record { each = λ p c above. begin-under W leads out n start inside (λ j. c) .each p } })
         .exact
 
     -- solutions bound the run, whatever the fuel
@@ -101,7 +102,7 @@ module _ {L : Lattice} (W : Laws L) (leads : ℕ → List ℕ) (out : ℕ → L 
     run-least c sol fuel =
         run-keeps W leads out (Least c)
         (λ st k ks e v. record { ok = step-ok W leads out n graph st k ks e (v .ok); under = step-under mono n graph st k ks e (v .ok) c sol (v .under) })
-        fuel (begin n start) (record { ok = begin-ok W leads out n start inside; under = begin-under W leads out n start inside c })
+        fuel (begin n start) (record { ok = begin-ok W n start inside; under = begin-under W leads out n start inside c })
         .under
 
     -- enough removals end the run, and it is the best there is

@@ -5,8 +5,9 @@ pub mod Worklist
 pub mod Queue
 -- Laws.
 pub mod LatticeLaws
+pub mod ReceiveLaws
 pub mod WorklistLaws
 pub mod LeastLaws
-pub mod MaskList
+pub mod MaskListLaws
 pub mod QueueLaws
 pub mod ReceiptLaws

@@ -9,10 +9,10 @@ use Rattle.base.specs.Sizes.{setWords}
 use Rattle.dataflow_domains.specs.Mask.{union}
 use Rattle.dataflow_domains.specs.Sets.{setAt, setsOf}
 use Rattle.dataflow_analysis.specs.declared.Cursor.{Cursor}
-use Rattle.dataflow_analysis.specs.declared.Taken.{Taken}
-use Rattle.dataflow_analysis.specs.declared.Taken.the-variants.{Key, Empty}
+use Rattle.dataflow_analysis.specs.declared.FirstKey.{FirstKey}
+use Rattle.dataflow_analysis.specs.declared.FirstKey.the-variants.{Key, Empty}
 use Rattle.dataflow_analysis.specs.Worklist.{State, receive}
-use Rattle.dataflow_analysis.specs.MaskList.{masks}
+use Rattle.dataflow_analysis.specs.Lattice.{masks}
 
 -- ---- the list
 
@@ -25,12 +25,12 @@ abbrev pub next : Cursor → Cursor
 next c = record { head = c .head + 1; len = c .len - 1 }
 
 -- the first of the keys that wait, and the cursor past it
-abbrev pub takenOf : List ℕ → Cursor → Taken
+abbrev pub takenOf : List ℕ → Cursor → FirstKey
 takenOf [] c = Empty
 takenOf (k ∷ ks) c = Key k (next c)
 
 -- key k waits behind the others, in q₁ from r on
-pub record Put (q : List ℕ) (c : Cursor) (k : ℕ) (q₁ : List ℕ) (r : Cursor) : Type 0 where
+pub record Queued (q : List ℕ) (c : Cursor) (k : ℕ) (q₁ : List ℕ) (r : Cursor) : Type 0 where
   pub queued : listOf q₁ r ≡ listOf q c ++ (k ∷ [])
   pub same-head : r .head ≡ c .head
   pub longer : r .len ≡ c .len + 1

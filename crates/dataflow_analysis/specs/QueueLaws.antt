@@ -2,15 +2,16 @@
 use mathlib.Core.Path.{_≡_, refl, sym, ap, ap₂, _∙_}
 use mathlib.Core.List.{List, [], _∷_}
 use Prim.Native.Nat.{ℕ, zero, suc, _+_, _-_, _≤_, _<_}
+use native.Mathlib.Nat.{zero-add}
 use native.Mathlib.Numerals.{add-one}
 use native.Mathlib.Omega.{arith}
 use lib.ListN.{getD, set, length, take, drop, length-drop}
 use lib.Seq.{drop-cons, drop-set-add, take-suc-set, length-take-le}
 use Rattle.dataflow_analysis.specs.declared.Cursor.{Cursor}
-use Rattle.dataflow_analysis.specs.declared.Taken.the-variants.{Key, Empty}
+use Rattle.dataflow_analysis.specs.declared.FirstKey.the-variants.{Key, Empty}
 use Rattle.dataflow_analysis.specs.Lattice.{Lattice}
 use Rattle.dataflow_analysis.specs.Worklist.{State, popped, step, run}
-use Rattle.dataflow_analysis.specs.Queue.{listOf, next, takenOf, Put, stateOf}
+use Rattle.dataflow_analysis.specs.Queue.{listOf, next, takenOf, Queued, stateOf}
 
 -- ---- the list
 
@@ -24,7 +25,7 @@ list-length q c h = length-take-le (c .len) (drop (c .head) q) (omega (arith, le
 
 -- after `put`
 pub put-list : (q : List ℕ) (c r : Cursor) (k : ℕ) → c .head + c .len < length q → r .head ≡ c .head → r .len ≡ c .len + 1
-    → Put q c k (set q (c .head + c .len) k) r
+    → Queued q c k (set q (c .head + c .len) k) r
 unfolding listOf
 put-list q c r k fits eh el = record {
   queued = ap₂ (λ (n h : ℕ). take n (drop h (set q (c .head + c .len) k))) (el ∙ add-one (c .len)) eh ∙ ap (take (suc (c .len))) (drop-set-add (c .head) q (c .len) k) ∙ take-suc-set (drop (c .head) q) (c .len) k (omega (arith, length-drop (c .head) q));
@@ -88,3 +89,20 @@ module _ {L : Lattice} (leads : ℕ → List ℕ) (out : ℕ → L .Value → L 
   run-done zero st e = refl
   run-done (suc fuel) st e =
       ap (λ (l : List ℕ). elim l as (λ _. State L) [ [] ↦ st | j ∷ js ↦ run leads out fuel (step leads out st j js) ]) e
+
+  -- more fuel changes nothing
+  pub run-longer : (fuel more : ℕ) (st : State L) → run leads out fuel st .list ≡ [] → run leads out (fuel + more) st ≡ run leads out fuel st
+  unfolding run
+  run-longer zero more st e = ap (λ (f : ℕ). run leads out f st) (zero-add more) ∙ run-done more st e
+  run-longer (suc fuel) more st e = go (st .list) refl (λ k ks. run-longer fuel more (step leads out st k ks))
+    where
+      next : fuel + more + 1 ≡ suc fuel + more
+      next = omega arith
+
+      go : (l : List ℕ) → st .list ≡ l
+          → ((k : ℕ) (ks : List ℕ) → run leads out fuel (step leads out st k ks) .list ≡ [] → run leads out (fuel + more) (step leads out st k ks) ≡ run leads out fuel (step leads out st k ks))
+          → run leads out (suc fuel + more) st ≡ run leads out (suc fuel) st
+      go [] q rest = run-done (suc fuel + more) st q ∙ sym (run-done (suc fuel) st q)
+      go (k ∷ ks) q rest =
+          ap (λ (f : ℕ). run leads out f st) (sym next ∙ add-one (fuel + more)) ∙ run-more (fuel + more) st k ks q
+          ∙ rest k ks (ap (λ (s : State L). s .list) (sym (run-more fuel st k ks q)) ∙ e) ∙ sym (run-more fuel st k ks q)

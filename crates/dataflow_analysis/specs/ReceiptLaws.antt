@@ -13,8 +13,8 @@ use Rattle.dataflow_domains.specs.Sets.{setAt, setsOf, Stored}
 use Rattle.dataflow_domains.specs.SliceLaws.{masks-at}
 use Rattle.dataflow_analysis.specs.declared.Cursor.{Cursor}
 use Rattle.dataflow_analysis.specs.Worklist.{State, receive, news, joined}
-use Rattle.dataflow_analysis.specs.MaskList.{masks}
-use Rattle.dataflow_analysis.specs.Queue.{listOf, Put, stateOf, newsAt, Received}
+use Rattle.dataflow_analysis.specs.Lattice.{masks}
+use Rattle.dataflow_analysis.specs.Queue.{listOf, Queued, stateOf, newsAt, Received}
 
 -- set p of the slice is node p's set
 pub at-node : (n : ℕ) (words : List ℕ) (p : ℕ) → p < n → getD (setsOf n words) p 0 ≡ setAt words p
@@ -62,7 +62,7 @@ receive-none m st p e = sym (ap (λ (b : Bool). cond b (joined m st p) st) e)
 module _ (words met q : List ℕ) (c : Cursor) (p m : ℕ) where
   -- with news p joins the list: its old set with m is stored, it is met, and its key is put
   pub received-news : (old s : ℕ) (words₁ q₁ : List ℕ) (r : Cursor) → newsAt words met p m ≡ true → old ≡ setAt words p → s ≡ union old m → Stored words p s words₁
-      → c .head + c .len < length q → Put q c p q₁ r → Received words met q c p m words₁ (set met p 1) q₁ r
+      → c .head + c .len < length q → Queued q c p q₁ r → Received words met q c p m words₁ (set met p 1) q₁ r
   received-news old s words₁ q₁ r e is grown stored room put = record {
     state = λ n t inside fits. ap (λ (x : List ℕ). stateOf x (set met p 1) q₁ r t) (stored .sets n inside fits ∙ ap (set (setsOf n words) p) (grown ∙ ap (λ (x : ℕ). union x m) (is ∙ sym (at-node n words p inside)))) ∙ receive-news (setsOf n words) met q q₁ c r p m t (news-at words met q c p m n t inside ∙ e) (put .queued);
     same-head = put .same-head;

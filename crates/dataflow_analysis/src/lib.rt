@@ -5,7 +5,7 @@ ghost use Prim.Native.Nat.{_+_, _*_, _<_, _≤_};
 ghost use lib.ListN.{length};
 ghost use Rattle.base.specs.Sizes.{setWords};
 ghost use Rattle.dataflow_domains.specs.Sets.{mask};
-ghost use Rattle.dataflow_analysis.specs.Queue.{listOf, takenOf, Put, newsAt, Received};
+ghost use Rattle.dataflow_analysis.specs.Queue.{listOf, takenOf, Queued, newsAt, Received};
 use dataflow_domains::JoinResult;
 use dataflow_domains::LiveVarState;
 
@@ -16,7 +16,7 @@ pub struct Cursor {
 }
 
 // The first key and the cursor past it, or that none waits.
-pub enum Taken {
+pub enum FirstKey {
     Key(u16, Cursor),
     Empty,
 }
@@ -31,7 +31,7 @@ impl Cursor {
     // One more at the end.
     pub fn put(self, q: &mut [u16], k: u16) -> Cursor
         requires { ⌜ self .head + self .len < length (now q) ⌝ }
-        ensures { λ r. ⌜ Put (now (q .entry)) self k (now (q .exit)) r ⌝ }
+        ensures { λ r. ⌜ Queued (now (q .entry)) self k (now (q .exit)) r ⌝ }
     {
         let head = self.head;
         let len = self.len;
@@ -41,16 +41,16 @@ impl Cursor {
     }
 
     // The one at the front.
-    pub fn take(self, q: &[u16]) -> Taken
+    pub fn take(self, q: &[u16]) -> FirstKey
         requires { ⌜ self .head + self .len ≤ length (now q) ⌝ }
         ensures { λ r. ⌜ r ≡ takenOf (listOf (now (q .entry)) self) self ⌝ }
     {
         let head = self.head;
         let len = self.len;
         if len == 0 {
-            return Taken::Empty;
+            return FirstKey::Empty;
         }
-        Taken::Key(
+        FirstKey::Key(
             q[head],
             Cursor {
                 head: head + 1,

@@ -6,16 +6,16 @@ use Prim.Native.Nat.{ℕ, zero, suc, _+_, _-_, _*_, _/_, _%_, _^_, _≤_, _<_}
 use native.Mathlib.Nat.{pow-suc, zero-add, zero-div, div-div-eq-div-mul}
 use native.Mathlib.Omega.{arith}
 use borrow.Author.Tests.{lt-ltb, le-ltb}
+use lib.Dec.{ltb}
 use lib.ListN.{length, getD, take, drop, set, length-append, length-set, take-append-drop}
 use lib.Pow.{pow-add}
 use lib.Seq.{take-suc, set-at, length-take-le}
 use Rattle.base.specs.Sizes.{setBytes}
-use Rattle.base.specs.Bytes.{number}
-use Rattle.base.specs.ListLaws.{getD-tab, length-tab}
+use Rattle.base.specs.Bytes.{number, Bytes}
+use Rattle.base.specs.ListLaws.{by-test, getD-tab, length-tab}
 use Rattle.base.specs.JoinLaws.{by-lt}
-use Rattle.listing.specs.Lines.{hexDigit, hex, decimalIn, decimal}
-use Rattle.sheet.specs.AcceptedLaws.{Bytes}
-use Rattle.base.specs.PutLaws.{Put}
+use Rattle.listing.specs.Words.{hexDigit, hex, decimalIn, decimal}
+use Rattle.base.specs.Put.{Put}
 
 -- ---- decimal
 
@@ -58,6 +58,18 @@ digit-less x h s = ap length (decimal-more x h s) ∙ length-append (decimal (x 
 pub decimal-short : (d x : ℕ) → x < 10 ^ suc d → length (decimal x) ≤ suc d
 unfolding decimal
 decimal-short d x h = in-short 20 d x h
+
+-- never more than 20
+in-most : (d x : ℕ) → length (decimalIn d x) ≤ d
+unfolding decimalIn
+in-most zero x = omega arith
+in-most (suc d) x =
+    by-test (λ b. length {A = ℕ} (elim b as (λ _. List ℕ) [ true ↦ (48 + x) ∷ [] | false ↦ decimalIn d (x / 10) ++ ((48 + x % 10) ∷ []) ]) ≤ suc d) (ltb x 10)
+    (λ _. omega arith) (λ _. omega (arith, length-append (decimalIn d (x / 10)) ((48 + x % 10) ∷ []), in-most d (x / 10)))
+
+pub decimal-most : (x : ℕ) → length (decimal x) ≤ 20
+unfolding decimal
+decimal-most x = in-most 20 x
 
 -- ---- written from the last digit on: those of y are to come, and the first of the others stands at i
 

@@ -5,8 +5,8 @@ ghost use Prim.Native.Nat.{_+_, _*_, _<_, _≤_};
 ghost use lib.ListN.{length};
 ghost use Rattle.base.specs.Bytes.{number};
 ghost use Rattle.base.specs.Sizes.{setBytes};
-ghost use Rattle.listing.specs.Lines.{hexDigit, hex, decimal};
-ghost use Rattle.base.specs.PutLaws.{Put};
+ghost use Rattle.base.specs.Put.{Put};
+ghost use Rattle.listing.specs.Words.{hexDigit, hex, decimal};
 use base::SET_BYTES;
 
 // How many digits a number has.

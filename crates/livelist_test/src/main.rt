@@ -1,13 +1,14 @@
 // Tests livelist's text: standard input has sheets one after the other, each behind its length in four bytes, and what livelist prints for each goes to standard output.
-// The input and what must come out are made by rust/src/bin/cases.rs: worked sheets, edges, and one sheet for each refusal.
+// The input and what must come out are made by rust/harness/src/bin/cases.rs: worked sheets, edges, and one sheet for each refusal.
 ghost use Prim.Native.Nat.{_+_, _≤_};
 ghost use lib.ListN.{length};
 ghost use Rattle.base.specs.Sizes.{maxBytes};
 use base::MAX_BYTES;
+use base::width::u8_to_usize;
 use libc::STDIN_FILENO;
 use libc::STDOUT_FILENO;
-use listing::livelist::print_live;
-use listing::text::TEXT_BYTES;
+use listing::livelist::TEXT_BYTES;
+use listing::livelist::put_livelist;
 
 // As livelist reads: one byte more than the longest sheet.
 const ROOM: usize = MAX_BYTES + 1;
@@ -15,17 +16,11 @@ const ROOM: usize = MAX_BYTES + 1;
 // The most sheets of a run.
 const MOST: usize = 64;
 
-fn wide(x: u8) -> usize
-    ensures { λ r. ⌜ r ≤ 255 ⌝ }
-{
-    x as usize
-}
-
 // The number in two bytes, at most what there is room for.
 fn length_in(low: u8, high: u8) -> usize
     ensures { λ r. ⌜ r ≤ maxBytes + 1 ⌝ }
 {
-    let n = wide(low) + 256 * wide(high);
+    let n = u8_to_usize(low) + 256 * u8_to_usize(high);
     if ROOM < n {
         return ROOM;
     }
@@ -35,7 +30,7 @@ fn length_in(low: u8, high: u8) -> usize
 // Prints what livelist prints for a sheet.
 fn show(sheet: &[u8]) {
     let mut text = [0u8; TEXT_BYTES];
-    let m = print_live(sheet, &mut text);
+    let m = put_livelist(sheet, &mut text);
     io::write_all(STDOUT_FILENO, &text[..m]);
 }
 

@@ -2,12 +2,12 @@
 use Prim.Native.Nat.{ℕ, zero, suc, _+_, _-_, _*_}
 use mathlib.Core.List.{List, [], _∷_, _++_}
 use lib.ListN.{getD, length, take, drop}
-use Rattle.base.specs.Sizes.{setBytes, takenBound}
+use Rattle.base.specs.Sizes.{setBytes, takenBound, pairBytes}
 use Rattle.base.specs.Lists.{tab, gather}
-use Rattle.base.specs.Bytes.{bytesOf}
-use Rattle.base.specs.Refusals.{Reply, Done, reply}
+use Rattle.base.specs.Bytes.{number, bytesOf, part}
+use Rattle.base.specs.Refusals.{Reply, Done, _then_, lends, reply}
 use Rattle.dataflow_analysis.specs.Worklist.{State, setAt, begin, run}
-use Rattle.dataflow_analysis.specs.MaskList.{masks}
+use Rattle.dataflow_analysis.specs.Lattice.{masks}
 use Rattle.stackless_bytecode.specs.declared.Bytecode.{Bytecode}
 use Rattle.stackless_bytecode.specs.Kinds.{at}
 use Rattle.sheet.specs.Layout.{codeOf, localsOf}
@@ -35,11 +35,15 @@ outOf code ks (suc (suc k)) m = executeAll (restOf code (getD ks k 0)) m
 
 -- ---- the run
 
--- the work list from key 1 until it is empty
-unfoldable pub analyzeFunction : List Bytecode → List ℕ → ℕ → State masks
-analyzeFunction code ks locals =
+-- the work list from key 1, until it is empty or `fuel` blocks are taken
+abbrev pub stateAfter : List Bytecode → List ℕ → ℕ → State masks
+stateAfter code ks fuel =
     let nexts = nextsOf code ks in
-    run (leadsTo nexts) (outOf code ks) (takenBound (length ks) locals) (begin (2 + length ks) 1)
+    run (leadsTo nexts) (outOf code ks) fuel (begin (2 + length ks) 1)
+
+-- until it is empty: the bound of the paper is enough (TakenUntilEmpty in LiveCall)
+unfoldable pub analyzeFunction : List Bytecode → List ℕ → ℕ → State masks
+analyzeFunction code ks locals = stateAfter code ks (takenBound (length ks) locals)
 
 -- ---- the sets of each instruction
 
@@ -71,9 +75,19 @@ analyze code locals =
 unfoldable pub liveBytes : List LiveVarInfo → List ℕ
 liveBytes xs = gather (λ x. bytesOf setBytes (x .before) ++ bytesOf setBytes (x .after)) xs
 
+-- ---- and read back from bytes
+
+-- the sets of one instruction
+unfoldable pub infoIn : List ℕ → LiveVarInfo
+infoIn p = record { before = number (take setBytes p); after = number (drop setBytes p) }
+
+-- of n instructions
+unfoldable pub infosOf : ℕ → List ℕ → List LiveVarInfo
+infosOf n p = tab n 0 (λ k. infoIn (part p (pairBytes * k) pairBytes))
+
 -- ---- the call live: the count taken and the sets, where so many bytes are lent
 
 unfoldable pub liveReply : List ℕ → ℕ → Reply
 liveReply s lent =
     let live = analyze (codeOf s) (localsOf s) in
-    reply (checkSheet s) lent (2 * setBytes * length (codeOf s)) (Done (live .taken) (liveBytes (live .info)))
+    reply (checkSheet s then lends lent (pairBytes * length (codeOf s))) (Done (live .taken) (liveBytes (live .info)))

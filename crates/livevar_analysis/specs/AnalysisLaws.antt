@@ -1,143 +1,36 @@
 -- The live sets obey the paper's rules, no sets that obey them have less, and no more blocks are taken than the bound. Assumes nothing.
 use mathlib.Core.Path.{_≡_, refl, sym, ap, ap₂, _∙_, subst}
-use mathlib.Core.Logic.{inl, inr, ⊎-elim}
-use mathlib.Core.Bool.{false, cond}
-use mathlib.Core.List.{List, [], _∷_, map, List·Memᴰ, List·Memᴰ·head, List·Memᴰ·tail, List·Memᴰ·not-nil, List·Memᴰ·cases-cons, List·Memᴰ·append-cases, List·Memᴰ·eq-of-singleton, Memᴰ·append-left, Memᴰ·append-right, Memᴰ·cast}
-use Prim.Native.Nat.{ℕ, zero, suc, _+_, _-_, _*_, _^_, _≤_, _<_, suc-le-suc}
-use native.Mathlib.Nat.{not-suc-le-zero, le-of-suc-le-suc, zero-lt-suc, zero-add, add-mul, mul-add, mul-one, one-mul}
+use mathlib.Core.Bool.{false}
+use mathlib.Core.List.{List, [], map, List·Memᴰ, List·Memᴰ·head, List·Memᴰ·not-nil, List·Memᴰ·eq-of-singleton, Memᴰ·cast}
+use Prim.Native.Nat.{ℕ, zero, suc, _+_, _-_, _*_, _^_, _≤_, _<_}
+use native.Mathlib.Nat.{zero-add, add-mul, mul-add, mul-one, one-mul}
 use native.Mathlib.Omega.{arith}
-use borrow.Author.Tests.{eqb-true, eqb-false}
-use lib.Dec.{eqb}
 use lib.ListN.{getD, length, take, drop, length-map}
-use lib.Seq.{drop-cons}
 use Rattle.dataflow_domains.specs.Mask.{bit, unions, Sub}
 use Rattle.dataflow_domains.specs.MaskLaws.{sub-eq, sub-trans, sub-antisymm, sub-empty, bit-empty, unions-in, unions-least, unions-one, sub-by, sub-at}
-use Rattle.dataflow_analysis.specs.Worklist.{State, setAt, Met, run}
-use Rattle.dataflow_analysis.specs.MaskList.{masks, Graph, Narrow, Source, Best, best}
+use Rattle.dataflow_analysis.specs.Worklist.{State, setAt, Met, begin, run}
+use Rattle.dataflow_analysis.specs.QueueLaws.{run-longer}
+use Rattle.dataflow_analysis.specs.Lattice.{masks}
+use Rattle.dataflow_analysis.specs.MaskListLaws.{Graph, Narrow, Source, Best, best}
 use Rattle.livevar_analysis.specs.Live.{Obeys, Post, execute}
 use Rattle.stackless_bytecode.specs.declared.Bytecode.{Bytecode}
 use Rattle.base.specs.Lists.{place}
 use Rattle.livevar_analysis.specs.LiveLaws.{transfer-mono}
-use Rattle.stackless_bytecode.specs.Kinds.{at, nop}
+use Rattle.stackless_bytecode.specs.Kinds.{at}
 use Rattle.stackless_bytecode.specs.Successors.{successors}
 use Rattle.stackless_control_flow_graph.specs.Blocks.{starts, lowerOf, upperOf, keyed, keyOf}
-use Rattle.stackless_control_flow_graph.specs.Backward.{nextsOf, times, predsFrom, leadsTo}
-use Rattle.livevar_analysis.specs.Analysis.{executeAll, restOf, outOf, analyzeFunction, LiveVarInfo, noInfo, infoOf, analyze}
+use Rattle.stackless_control_flow_graph.specs.Backward.{nextsOf, leadsTo}
+use Rattle.livevar_analysis.specs.Analysis.{executeAll, restOf, outOf, stateAfter, analyzeFunction, LiveVarInfo, noInfo, infoOf, analyze}
 use Rattle.base.specs.Sizes.{takenBound}
-use Rattle.base.specs.ListLaws.{by-test, by-eq, map-in, in-map, in-take, in-drop, getD-in, getD-tab, length-tab, in-tab, tab-in, place-lt, getD-place, place-getD}
-use Rattle.stackless_bytecode.specs.SuccessorLaws.{Sound}
+use Rattle.base.specs.ListLaws.{map-in, in-map, in-take, in-drop, getD-in, getD-tab, length-tab, in-tab, tab-in, place-lt, getD-place, place-getD}
+use Rattle.stackless_bytecode.specs.Sound.{Sound}
 use Rattle.stackless_control_flow_graph.specs.BlockLaws.{Last, Start, succs-mid, succs-start, upper-le, upper-lt, upper-last, upper-next, upper-stop, lower-start, lower-next, lower-starts, lower-le, upper-lower, keyed-in, in-keyed, keyed-distinct}
-
--- ---- sets that obey have at least what the rules give
-
-pub obeys-post : (code : List Bytecode) (b a : ℕ → ℕ) → Obeys code b a → Post code b a
-obeys-post code b a ob = record {
-  after = λ k o h i. sub-trans (unions-in (map b (successors code k)) (map-in b (successors code k) i)) (sub-eq (sym (ob .after k h)));
-  before = λ k h. sub-eq (sym (ob .before k h));
-}
-
--- ---- predecessors
-
-times-in : (p k : ℕ) (ns : List ℕ) → List·Memᴰ k ns → List·Memᴰ p (times p k ns)
-unfolding times
-times-in p k [] i = absurd (List·Memᴰ·not-nil i)
-times-in p k (x ∷ xs) i =
-    by-test (λ b. List·Memᴰ p (cond b (p ∷ times p k xs) (times p k xs))) (eqb k x) (λ e. List·Memᴰ·head refl)
-    (λ e. ⊎-elim (λ s. absurd (eqb-false k x e s)) (λ t. times-in p k xs t) (List·Memᴰ·cases-cons i))
-
-in-times : (q p k : ℕ) (ns : List ℕ) → List·Memᴰ q (times p k ns) → (q ≡ p) × List·Memᴰ k ns
-unfolding times
-in-times q p k [] i = absurd (List·Memᴰ·not-nil i)
-in-times q p k (x ∷ xs) i =
-    by-test (λ b. List·Memᴰ q (cond b (p ∷ times p k xs) (times p k xs)) → (q ≡ p) × List·Memᴰ k (x ∷ xs)) (eqb k x)
-    (λ e m. ⊎-elim (λ s. (s, List·Memᴰ·head (eqb-true k x e))) (λ t. let r = in-times q p k xs t in (r .0, List·Memᴰ·tail (r .1))) (List·Memᴰ·cases-cons m))
-    (λ e m. let r = in-times q p k xs m in (r .0, List·Memᴰ·tail (r .1))) i
-
-preds-in : (nss : List (List ℕ)) (p k i : ℕ) → i < length nss → List·Memᴰ k (getD nss i []) → List·Memᴰ (p + i) (predsFrom nss p k)
-unfolding predsFrom
-preds-in [] p k i h m = absurd (not-suc-le-zero h)
-preds-in (ns ∷ nss) p k zero h m = Memᴰ·append-left (predsFrom nss (suc p) k) (Memᴰ·cast (omega arith) (times-in p k ns m))
-preds-in (ns ∷ nss) p k (suc i) h m =
-    Memᴰ·append-right (times p k ns) (Memᴰ·cast (omega arith) (preds-in nss (suc p) k i (le-of-suc-le-suc h) m))
-
-pub record Edge (nss : List (List ℕ)) (p k q : ℕ) : Type 0 where
-  pub from : ℕ
-  pub inside : from < length nss
-  pub is : q ≡ p + from
-  pub edge : List·Memᴰ k (getD nss from [])
-
-in-preds : (nss : List (List ℕ)) (p k q : ℕ) → List·Memᴰ q (predsFrom nss p k) → Edge nss p k q
-unfolding predsFrom
-in-preds [] p k q m = absurd (List·Memᴰ·not-nil m)
-in-preds (ns ∷ nss) p k q m =
-    ⊎-elim (λ h. let r = in-times q p k ns h in record { from = 0; inside = zero-lt-suc (length nss); is = omega arith; edge = r .1 })
-    (λ t. let r = in-preds nss (suc p) k q t in record { from = suc (r .from); inside = suc-le-suc (r .inside); is = omega arith; edge = r .edge })
-    (List·Memᴰ·append-cases (times p k ns) m)
-
-getD-map-lt : {A B : Type 0} (f : A → B) (xs : List A) (k : ℕ) (d : A) (e : B) → k < length xs → getD (map f xs) k e ≡ f (getD xs k d)
-getD-map-lt f [] k d e h = absurd (not-suc-le-zero h)
-getD-map-lt f (x ∷ xs) zero d e h = refl
-getD-map-lt f (x ∷ xs) (suc k) d e h = getD-map-lt f xs k d e (le-of-suc-le-suc h)
-
-map-same : {B : Type 0} (f g : ℕ → B) (xs : List ℕ) → ((x : ℕ) → List·Memᴰ x xs → f x ≡ g x) → map f xs ≡ map g xs
-map-same f g [] h = refl
-map-same f g (x ∷ xs) h = ap₂ _∷_ (h x (List·Memᴰ·head refl)) (map-same f g xs (λ y i. h y (List·Memᴰ·tail i)))
-
--- ---- the rest of a block
-
-before-mono : (rs : List Bytecode) (m n : ℕ) → Sub m n → Sub (executeAll rs m) (executeAll rs n)
-unfolding executeAll
-before-mono [] m n p = p
-before-mono (r ∷ rs) m n p = transfer-mono r (executeAll rs m) (executeAll rs n) (before-mono rs m n p)
-
-before-lt : (l : ℕ) (rs : List Bytecode) → ((r : Bytecode) (m : ℕ) → List·Memᴰ r rs → m < 2 ^ l → execute r m < 2 ^ l) → (m : ℕ) → m < 2 ^ l → executeAll rs m < 2 ^ l
-unfolding executeAll
-before-lt l [] h m b = b
-before-lt l (r ∷ rs) h m b = h r (executeAll rs m) (List·Memᴰ·head refl) (before-lt l rs (λ q n i. h q n (List·Memᴰ·tail i)) m b)
-
-module _ (code : List Bytecode) where
-  -- the instructions behind k, to the end of its block
-  pub behind : ℕ → List Bytecode
-  behind k = take (upperOf code k - k) (drop (suc k) code)
-
-  pub rest-is : (k : ℕ) → k < length code → restOf code k ≡ at code k ∷ behind k
-  unfolding restOf behind
-  rest-is k h =
-      let size : suc (upperOf code k) - k ≡ suc (upperOf code k - k) = omega (arith, upper-le code k) in
-      ap₂ (λ (x : ℕ) (l : List Bytecode). take x l) size (drop-cons code k nop h)
-
-  pub behind-last : (k : ℕ) → k < length code → Last code k → behind k ≡ []
-  unfolding behind
-  behind-last k h last =
-      let size : upperOf code k - k ≡ 0 = omega (arith, upper-stop code k h last) in
-      ap (λ (x : ℕ). take x (drop (suc k) code)) size
-
-  pub behind-mid : (k : ℕ) → suc k < length code → starts code (suc k) ≡ false → behind k ≡ restOf code (suc k)
-  unfolding behind restOf
-  behind-mid k h e =
-      let size : upperOf code k - k ≡ suc (upperOf code (suc k)) - suc k = omega (arith, upper-next code k h e, upper-le code (suc k)) in
-      ap (λ (x : ℕ). take x (drop (suc k) code)) size
-
-  -- a block ends at k, or goes on
-  pub by-last : {P : Type 0} (k : ℕ) → k < length code → (Last code k → P) → (suc k < length code → starts code (suc k) ≡ false → P) → P
-  unfolding Last
-  by-last {P} k h stop on =
-      by-eq (suc k) (length code) (λ e. stop (inl e))
-      (λ g. by-test (λ b. starts code (suc k) ≡ b → P) (starts code (suc k)) (λ e q. stop (inr e)) (λ e q. on (omega arith) e) refl)
-
--- an instruction's sides from its set after
-abbrev pub sidesBy : Bytecode → ℕ → LiveVarInfo
-sidesBy r m = record { before = execute r m; after = m }
+use Rattle.stackless_control_flow_graph.specs.GraphLaws.{keys-once}
+use Rattle.livevar_analysis.specs.BlockRuleLaws.{obeys-post, preds-in, Edge, in-preds, getD-map-lt, map-same, before-mono, before-lt, behind, rest-is, behind-last, behind-mid, by-last, sidesBy}
 
 -- ---- the graph of a sheet
 
 module _ (code : List Bytecode) (sound : Sound code) (l : ℕ) (small : (r : Bytecode) (m : ℕ) → List·Memᴰ r code → m < 2 ^ l → execute r m < 2 ^ l) where
-  abbrev ks : List ℕ
-  ks = keyed code
-
-  abbrev nexts : List (List ℕ)
-  nexts = nextsOf code (keyed code)
-
   nexts-length : length (nextsOf code (keyed code)) ≡ 2 + length (keyed code)
   unfolding nextsOf
   nexts-length = omega (arith, length-map (keyed code) (λ o. map (keyOf (keyed code)) (successors code (upperOf code o))))
@@ -273,12 +166,6 @@ module _ (code : List Bytecode) (sound : Sound code) (l : ℕ) (small : (r : Byt
       let given = is-best .handed (keyOf (keyed code) o′) (start-met o′ s′) .each (keyOf (keyed code) o) (edge-in o o′ s i) .has in
       subst (λ (x : ℕ). Sub x (setAt st (keyOf (keyed code) o))) (out-is o′ (setAt st (keyOf (keyed code) o′)) s′) given
 
-  key-one : (a b : ℕ) → Start code a → Start code b → keyOf (keyed code) a ≡ keyOf (keyed code) b → a ≡ b
-  unfolding keyOf
-  key-one a b s t e =
-      let same : place a (keyed code) ≡ place b (keyed code) = omega arith in
-      sym (key-offset a s) ∙ ap (λ (x : ℕ). getD (keyed code) x 0) same ∙ key-offset b t
-
   -- and it has nothing else
   tail-from : (o i : ℕ) → Start code o → bit (tail o) i ≡ 1 → bit (unions (map head (successors code (upperOf code o)))) i ≡ 1
   unfolding tail head
@@ -291,7 +178,7 @@ module _ (code : List Bytecode) (sound : Sound code) (l : ℕ) (small : (r : Byt
           absurd (omega (arith, g, ap (λ (x : ℕ). bit x i) same, bit-empty i))
       found k (edge (entrance e q)) g = unfold keyOf in absurd (omega arith)
       found k (edge (block a o′ sa e m q)) g =
-          let same : o ≡ a = key-one o a s sa e in
+          let same : o ≡ a = keys-once code sound o a s sa e in
           let m′ = subst (λ (x : ℕ). List·Memᴰ o′ (successors code (upperOf code x))) (sym same) m in
           let g′ = subst (λ (x : ℕ). bit (outOf code (keyed code) x (setAt st x)) i ≡ 1) q g in
           sub-at (unions-in (map head (successors code (upperOf code o))) (map-in head (successors code (upperOf code o)) m′)) i
@@ -447,6 +334,19 @@ module _ (code : List Bytecode) (sound : Sound code) (l : ℕ) (small : (r : Byt
   pub taken-le : analyze code l .taken ≤ takenBound (length (keyed code)) l
   unfolding analyze st
   taken-le = omega (arith, is-best .few, bound-fits)
+
+  -- with the bound as fuel, or with more, the list is empty in the end, and as many are taken
+  pub list-empty : (fuel : ℕ) → takenBound (length (keyed code)) l ≤ fuel → stateAfter code (keyed code) fuel .list ≡ []
+  list-empty fuel h =
+      best (leadsTo (nextsOf code (keyed code))) (outOf code (keyed code)) (2 + length (keyed code)) 1 l graph narrow (omega arith) fuel (omega (arith, bound-fits)) .done
+
+  pub same-taken : (fuel : ℕ) → takenBound (length (keyed code)) l ≤ fuel → stateAfter code (keyed code) fuel .taken ≡ analyze code l .taken
+  unfolding analyze analyzeFunction
+  same-taken fuel h =
+      let bound = takenBound (length (keyed code)) l in
+      let more : fuel ≡ bound + (fuel - bound) = omega arith in
+      ap (λ (f : ℕ). stateAfter code (keyed code) f .taken) more
+      ∙ ap (λ (s : State masks). s .taken) (run-longer (leadsTo (nextsOf code (keyed code))) (outOf code (keyed code)) bound (fuel - bound) (begin (2 + length (keyed code)) 1) (list-empty bound (omega arith)))
 
   pub sides-length : length (analyze code l .info) ≡ length code
   unfolding analyze

@@ -1,7 +1,7 @@
--- A decoded rule does what the live rule of its instruction says, and so does each rule in the slices. Assumes nothing.
+-- A decoded rule does what the live rule of its instruction says, and so does each rule in the slice. Assumes nothing.
 use mathlib.Core.Path.{_≡_, refl, sym, ap, _∙_, subst}
 use mathlib.Core.Logic.{_⊎_, inl, inr, _≢_, ⊎-elim}
-use mathlib.Core.Bool.{Bool, true, false, cond}
+use mathlib.Core.Bool.{Bool, true, false, cond, not}
 use mathlib.Core.List.{List, [], _∷_, _++_}
 use Prim.Native.Nat.{ℕ, _+_, _*_, _^_, _≤_, _<_}
 use native.Mathlib.Nat.{not-suc-le-zero}
@@ -11,11 +11,11 @@ use borrow.Author.Tests.{eq-eqb, ne-eqb}
 use lib.Dec.{eqb}
 use lib.ListN.{getD, length, take}
 use lib.Seq.{take-suc, getD-set-same, getD-set-other}
-use mir.Val.{boolByte}
 use Rattle.base.specs.Sizes.{setWords}
 use Rattle.base.specs.ListLaws.{by-test, by-eq}
 use Rattle.dataflow_domains.specs.Mask.{bit, holds, union, minus, setOf}
-use Rattle.dataflow_domains.specs.MaskLaws.{ext, bit-union, bit-minus, bit-empty, bit-self, bit-other, bit-lt, minus-none, holds-true, holds-false}
+use Rattle.dataflow_domains.specs.MaskLaws.{ext, bit-union, bit-minus, bit-empty, bit-self, bit-other, bit-lt, minus-none}
+use Rattle.dataflow_domains.specs.HoldsLaws.{holds-true, holds-false}
 use Rattle.dataflow_domains.specs.Sets.{setAt, setsOf, Stored}
 use Rattle.dataflow_domains.specs.SliceLaws.{masks-length}
 use Rattle.dataflow_analysis.specs.ReceiptLaws.{at-node}
@@ -23,7 +23,7 @@ use Rattle.stackless_bytecode.specs.declared.Bytecode.{Bytecode}
 use Rattle.stackless_bytecode.specs.Kinds.{at, dstsOf, srcsOf, isFlagged}
 use Rattle.livevar_analysis.specs.Live.{assigned, called, execute}
 use Rattle.livevar_analysis.specs.RuleLaws.{assign-rule, load-rule}
-use Rattle.livevar_analysis.specs.Rules.{applied, ruleAt, Ruled, RuleRoom, RulePut}
+use Rattle.livevar_analysis.specs.Rules.{applied, ruleSets, ruleAt, Ruled, RuleRoom, RulePut}
 
 -- ---- the set of a list, one place after the other
 
@@ -109,7 +109,7 @@ module _ (r : Bytecode) (kills gens m : ℕ) where
   decoded-sources k e f = rw (e, f) (applied-sources (setOf (take (r .nsrc) (r .srcs))) m ∙ sym (sources-is k))
 
   -- no kind that the rules name
-  none-is : (r .kind ≡ 0 → ⊥) → (r .kind ≡ 1 → ⊥) → ((r .kind ≡ 2) ⊎ ((r .kind ≡ 4) ⊎ ((r .kind ≡ 7) ⊎ (r .kind ≡ 11))) → ⊥) → (r .kind ≡ 3 → ⊥) → execute r m ≡ m
+  pub none-is : (r .kind ≡ 0 → ⊥) → (r .kind ≡ 1 → ⊥) → ((r .kind ≡ 2) ⊎ ((r .kind ≡ 4) ⊎ ((r .kind ≡ 7) ⊎ (r .kind ≡ 11))) → ⊥) → (r .kind ≡ 3 → ⊥) → execute r m ≡ m
   unfolding execute
   none-is a b s l =
       let two : eqb (r .kind) 2 ≡ false = ne-eqb _ 2 (λ e. s (inl e)) in
@@ -118,9 +118,9 @@ module _ (r : Bytecode) (kills gens m : ℕ) where
       let eleven : eqb (r .kind) 11 ≡ false = ne-eqb _ 11 (λ e. s (inr (inr (inr e)))) in
       rw (ne-eqb _ 0 a, ne-eqb _ 1 b, ne-eqb _ 3 l, two, four, seven, eleven)
 
-  pub decoded-none : (r .kind ≡ 0 → ⊥) → (r .kind ≡ 1 → ⊥) → ((r .kind ≡ 2) ⊎ ((r .kind ≡ 4) ⊎ ((r .kind ≡ 7) ⊎ (r .kind ≡ 11))) → ⊥) → (r .kind ≡ 3 → ⊥)
-      → kills ≡ 0 → gens ≡ 0 → applied false kills gens m ≡ execute r m
-  decoded-none a b s l e f = rw (e, f) (applied-load 0 m ∙ minus-none m ∙ sym (none-is a b s l))
+-- nothing goes out, nothing comes in
+pub applied-none : (kills gens m : ℕ) → kills ≡ 0 → gens ≡ 0 → applied false kills gens m ≡ m
+applied-none kills gens m e f = rw (e, f) (applied-load 0 m ∙ minus-none m)
 
 -- ---- a set that is stored in a slice
 
@@ -139,42 +139,55 @@ module _ (old : List ℕ) (i m : ℕ) (new : List ℕ) (stored : Stored old i m 
       sym (at-node n new j h) ∙ ap (λ (l : List ℕ). getD l j 0) (stored .sets n inside fits)
       ∙ getD-set-other (setsOf n old) i j m 0 g ∙ at-node n old j h
 
--- ---- the loop: the rules of the first n instructions are in the slices
+-- a rule is stored as three sets
+pub rule-put : (rules : List ℕ) (k kill gen flag : ℕ) (assign : Bool) (rules₁ rules₂ rules₃ : List ℕ) → RuleRoom (k + 1) rules → not (eqb flag 0) ≡ assign
+    → Stored rules (ruleSets * k) kill rules₁ → Stored rules₁ (ruleSets * k + 1) gen rules₂ → Stored rules₂ (ruleSets * k + 2) flag rules₃ → RulePut rules k kill gen assign rules₃
+rule-put rules k kill gen flag assign rules₁ rules₂ rules₃ room is a b c = record {
+  killed = stored-other _ _ _ _ c n i2 f2 (ruleSets * k) i0 (λ e. omega arith) ∙ stored-other _ _ _ _ b n i1 f1 (ruleSets * k) i0 (λ e. omega arith) ∙ stored-here _ _ _ _ a n i0 f0;
+  genned = stored-other _ _ _ _ c n i2 f2 (ruleSets * k + 1) i1 (λ e. omega arith) ∙ stored-here _ _ _ _ b n i1 f1;
+  flagged = ap (λ (x : ℕ). not (eqb x 0)) (stored-here _ _ _ _ c n i2 f2) ∙ is;
+  others = λ i h. stored-other _ _ _ _ c n i2 f2 i (omega arith) (λ e. omega arith) ∙ stored-other _ _ _ _ b n i1 f1 i (omega arith) (λ e. omega arith) ∙ stored-other _ _ _ _ a n i0 f0 i (omega arith) (λ e. omega arith);
+}
+  where
+    n : ℕ
+    n = ruleSets * k + 3
 
-pub record RuledTo (code : List Bytecode) (n : ℕ) (kills gens assigns : List ℕ) : Type 0 where
-  pub each : (k m : ℕ) → k < n → ruleAt kills gens assigns k m ≡ execute (at code k) m
+    i0 : ruleSets * k < ruleSets * k + 3
+    i0 = omega arith
 
-pub ruled-none : (code : List Bytecode) (kills gens assigns : List ℕ) → RuledTo code 0 kills gens assigns
-ruled-none code kills gens assigns = record { each = λ k m h. absurd (not-suc-le-zero h) }
+    i1 : ruleSets * k + 1 < ruleSets * k + 3
+    i1 = omega arith
 
-pub ruled-all : (code : List Bytecode) (n : ℕ) (kills gens assigns : List ℕ) → length code ≤ n → RuledTo code n kills gens assigns → Ruled code kills gens assigns
-ruled-all code n kills gens assigns l r = record { each = λ k m h. r .each k m (omega arith) }
+    i2 : ruleSets * k + 2 < ruleSets * k + 3
+    i2 = omega arith
 
-byte-is : (b : Bool) → eqb (boolByte b) 1 ≡ b
-byte-is true = refl
-byte-is false = refl
+    f0 : (ruleSets * k + 3) * setWords ≤ length rules
+    f0 = omega (arith, room .fit)
 
-module _ (code : List Bytecode) (n : ℕ) (kills gens assigns : List ℕ) (kill gen : ℕ) (assign : Bool) (kills₁ gens₁ assigns₁ : List ℕ)
-    (room : RuleRoom (n + 1) kills gens assigns) (put : RulePut kills gens assigns n kill gen assign kills₁ gens₁ assigns₁) where
-  last : n < n + 1
-  last = omega arith
+    f1 : (ruleSets * k + 3) * setWords ≤ length rules₁
+    f1 = omega (arith, room .fit, a .long)
 
-  -- the new rule, and those before it
-  flag-here : eqb (getD assigns₁ n 0) 1 ≡ assign
-  flag-here =
-      ap (λ (l : List ℕ). eqb (getD l n 0) 1) (put .flagged)
-      ∙ ap (λ (x : ℕ). eqb x 1) (getD-set-same assigns n (boolByte assign) 0 (omega (arith, room .assigns-fit))) ∙ byte-is assign
+    f2 : (ruleSets * k + 3) * setWords ≤ length rules₂
+    f2 = omega (arith, room .fit, a .long, b .long)
 
-  flag-other : (k : ℕ) → k ≢ n → eqb (getD assigns₁ k 0) 1 ≡ eqb (getD assigns k 0) 1
-  flag-other k g = ap (λ (l : List ℕ). eqb (getD l k 0) 1) (put .flagged) ∙ ap (λ (x : ℕ). eqb x 1) (getD-set-other assigns n k (boolByte assign) 0 g)
+-- ---- the loop: the rules of the first n instructions are in the slice
 
-  pub ruled-more : ((m : ℕ) → applied assign kill gen m ≡ execute (at code n) m) → RuledTo code n kills gens assigns → RuledTo code (n + 1) kills₁ gens₁ assigns₁
-  ruled-more is r = record { each = λ k m h. by-eq k n (λ e. here k m e) (λ g. other k m h g) }
-    where
-      here : (k m : ℕ) → k ≡ n → ruleAt kills₁ gens₁ assigns₁ k m ≡ execute (at code k) m
-      here k m e =
-          rw (e, flag-here, stored-here kills n kill kills₁ (put .killed) (n + 1) last (room .kills-fit), stored-here gens n gen gens₁ (put .genned) (n + 1) last (room .gens-fit)) (is m)
+pub record RuledTo (code : List Bytecode) (n : ℕ) (rules : List ℕ) : Type 0 where
+  pub each : (k m : ℕ) → k < n → ruleAt rules k m ≡ execute (at code k) m
 
-      other : (k m : ℕ) → k < n + 1 → k ≢ n → ruleAt kills₁ gens₁ assigns₁ k m ≡ execute (at code k) m
-      other k m h g =
-          rw (flag-other k g, stored-other kills n kill kills₁ (put .killed) (n + 1) last (room .kills-fit) k h g, stored-other gens n gen gens₁ (put .genned) (n + 1) last (room .gens-fit) k h g) (r .each k m (omega arith))
+pub ruled-none : (code : List Bytecode) (rules : List ℕ) → RuledTo code 0 rules
+ruled-none code rules = record { each = λ k m h. absurd (not-suc-le-zero h) }
+
+pub ruled-all : (code : List Bytecode) (n : ℕ) (rules : List ℕ) → length code ≤ n → RuledTo code n rules → Ruled code rules
+ruled-all code n rules l r = record { each = λ k m h. r .each k m (omega arith) }
+
+-- one rule more
+pub ruled-more : (code : List Bytecode) (n : ℕ) (rules : List ℕ) (kill gen : ℕ) (assign : Bool) (rules₁ : List ℕ) → RulePut rules n kill gen assign rules₁
+    → ((m : ℕ) → applied assign kill gen m ≡ execute (at code n) m) → RuledTo code n rules → RuledTo code (n + 1) rules₁
+ruled-more code n rules kill gen assign rules₁ put is r = record { each = λ k m h. by-eq k n (λ e. here k m e) (λ g. other k m (omega arith)) }
+  where
+    here : (k m : ℕ) → k ≡ n → ruleAt rules₁ k m ≡ execute (at code k) m
+    here k m e = rw (e, put .killed, put .genned, put .flagged) (is m)
+
+    other : (k m : ℕ) → k < n → ruleAt rules₁ k m ≡ execute (at code k) m
+    other k m h = rw (put .others (ruleSets * k) (omega arith), put .others (ruleSets * k + 1) (omega arith), put .others (ruleSets * k + 2) (omega arith)) (r .each k m h)

@@ -1,57 +1,57 @@
 -- What the engine's loops are to the definitions: a rule, the rules of a block, handing on, and one key. Assumes nothing.
 use mathlib.Core.Path.{_≡_, refl, sym, ap, ap₂, _∙_, subst}
 use mathlib.Core.Logic.{_⊎_, inl, inr}
-use mathlib.Core.Bool.{Bool, true, false, cond, _&&_}
+use mathlib.Core.Bool.{Bool, true, false, cond, not, _&&_}
 use mathlib.Core.List.{List, [], _∷_, _++_, map}
 use Prim.Native.Nat.{ℕ, zero, suc, _+_, _-_, _*_, _≤_, _<_}
 use native.Mathlib.Numerals.{add-one}
 use native.Mathlib.Omega.{arith}
-use borrow.Author.Tests.{ne-eqb}
 use lib.Dec.{eqb}
 use lib.ListN.{getD, length, take, drop, length-drop, length-map}
 use lib.Seq.{take-suc, take-all, getD-drop}
-use Rattle.base.specs.Sizes.{setWords}
+use Rattle.base.specs.Sizes.{setWords, maxNumber}
 use Rattle.base.specs.Lists.{over, tab}
 use Rattle.base.specs.ListLaws.{over-append, getD-in}
 use Rattle.dataflow_domains.specs.Mask.{union, minus}
 use Rattle.dataflow_domains.specs.Sets.{setAt, setsOf}
 use Rattle.dataflow_analysis.specs.declared.Cursor.{Cursor}
 use Rattle.dataflow_analysis.specs.Worklist.{State, news, receive}
-use Rattle.dataflow_analysis.specs.MaskList.{masks}
+use Rattle.dataflow_analysis.specs.Lattice.{masks}
 use Rattle.dataflow_analysis.specs.Queue.{listOf, stateOf, newsAt, Received}
 use Rattle.dataflow_analysis.specs.QueueLaws.{list-length}
 use Rattle.dataflow_analysis.specs.ReceiptLaws.{news-at}
 use Rattle.stackless_bytecode.specs.declared.Bytecode.{Bytecode}
 use Rattle.stackless_bytecode.specs.Kinds.{at, nop}
 use Rattle.stackless_bytecode.specs.Successors.{successors}
-use Rattle.stackless_bytecode.specs.SuccessorLaws.{Sound}
+use Rattle.stackless_bytecode.specs.Sound.{Sound}
 use Rattle.stackless_control_flow_graph.specs.Blocks.{upperOf, keyed, keyOf}
 use Rattle.stackless_control_flow_graph.specs.Backward.{nextsOf, leadsTo}
+use Rattle.stackless_control_flow_graph.specs.Graph.{Bounds}
 use Rattle.stackless_control_flow_graph.specs.BlockLaws.{upper-lt, in-keyed}
 use Rattle.livevar_analysis.specs.Live.{execute}
 use Rattle.livevar_analysis.specs.Analysis.{executeAll, restOf, outOf}
-use Rattle.livevar_analysis.specs.Rules.{applied, ruleAt, RuleRoom}
-use Rattle.livevar_analysis.specs.Engine.{Bounds, stateAt, CanHand, HandedOn, CanOut, leads, CanStep}
+use Rattle.livevar_analysis.specs.Rules.{applied, ruleSets, ruleAt}
+use Rattle.livevar_analysis.specs.Engine.{Tables, stateAt, CanHand, HandedOn, CanOut, given, leads, CanHandKey}
 
 -- ---- one rule
 
-module _ (kills gens assigns : List ℕ) (k m kill rest : ℕ) (is : kill ≡ setAt kills k) (left : rest ≡ minus m kill) where
+module _ (rules : List ℕ) (k m kill rest flag : ℕ) (is : kill ≡ setAt rules (ruleSets * k)) (left : rest ≡ minus m kill) (flag-is : flag ≡ setAt rules (ruleSets * k + 2)) where
   -- an Assign whose destination is not in the set
-  pub rule-kept : getD assigns k 0 ≡ 1 → eqb rest m ≡ true → m ≡ ruleAt kills gens assigns k m
+  pub rule-kept : not (eqb flag 0) ≡ true → eqb rest m ≡ true → m ≡ ruleAt rules k m
   unfolding applied
-  rule-kept f e = sym (rw (f, ← is, ← left, e))
+  rule-kept f e = sym (rw (← flag-is, f, ← is, ← left, e))
 
   -- any other
-  pub rule-done : (gen r : ℕ) → (getD assigns k 0 ≡ 1 → ⊥) ⊎ (eqb rest m ≡ false) → gen ≡ setAt gens k → r ≡ union gen rest → r ≡ ruleAt kills gens assigns k m
+  pub rule-done : (gen r : ℕ) → (not (eqb flag 0) ≡ false) ⊎ (eqb rest m ≡ false) → gen ≡ setAt rules (ruleSets * k + 1) → r ≡ union gen rest → r ≡ ruleAt rules k m
   rule-done gen r why g e = e ∙ sym (done why)
     where
       either : (b : Bool) → cond (b && false) m (union gen rest) ≡ union gen rest
       either true = refl
       either false = refl
 
-      done : (getD assigns k 0 ≡ 1 → ⊥) ⊎ (eqb rest m ≡ false) → ruleAt kills gens assigns k m ≡ union gen rest
-      done (inl f) = unfold applied in rw (ne-eqb _ 1 f, ← is, ← left, ← g)
-      done (inr t) = unfold applied in rw (← is, ← left, ← g, t) (either (eqb (getD assigns k 0) 1))
+      done : (not (eqb flag 0) ≡ false) ⊎ (eqb rest m ≡ false) → ruleAt rules k m ≡ union gen rest
+      done (inl f) = unfold applied in rw (← flag-is, f, ← is, ← left, ← g)
+      done (inr t) = unfold applied in rw (← flag-is, ← is, ← left, ← g, t) (either (not (eqb flag 0)))
 
 -- ---- the rules of a block, from its end to its start
 
@@ -151,7 +151,7 @@ out-dummy code ks zero m h = refl
 out-dummy code ks (suc zero) m h = refl
 out-dummy code ks (suc (suc k)) m h = absurd (omega arith)
 
-module _ (code : List Bytecode) (sound : Sound code) (lows ups : List ℕ) (bounds : Bounds code (keyed code) lows ups) (k : ℕ) (block : 2 ≤ k) (inside : k < 2 + length (keyed code)) where
+module _ (code : List Bytecode) (sound : Sound code) (lows ups : List ℕ) (bounds : Bounds code lows ups) (k : ℕ) (block : 2 ≤ k) (inside : k < 2 + length (keyed code)) where
   key-inside : k - 2 < length (keyed code)
   key-inside = omega arith
 
@@ -196,8 +196,18 @@ leads-all code n k e one =
     let size : n - 2 ≡ length (nextsOf code (keyed code)) - 2 = omega (arith, nexts-length code (keyed code)) in
     ap (λ (x : ℕ). tab x 2 (λ b. b)) size ∙ sym (ap (leadsTo (nextsOf code (keyed code))) one ∙ (unfold leadsTo in refl))
 
-module _ (kills gens assigns preds starts lows ups sets met q : List ℕ) (c : Cursor) (k : ℕ) (can : CanStep kills gens assigns preds starts lows ups sets met q c k) where
-  pub step-out : CanOut kills gens assigns lows ups sets k
+-- the slices have the tables of some sound code, and those that key k leads to can receive what it hands on
+pub record CanStep (rules lows ups firsts edges sets met q : List ℕ) (c : Cursor) (k : ℕ) : Type 0 where
+  pub code : List Bytecode
+  pub sound : Sound code
+  pub tables : Tables code rules lows ups firsts edges
+  pub nodes : length met ≡ 2 + length (keyed code)
+  pub few : length met ≤ maxNumber + 1
+  pub inside : k < length met
+  pub hands : CanHand (length met) sets met q c (leads code k) (given code sets k)
+
+module _ (rules lows ups firsts edges sets met q : List ℕ) (c : Cursor) (k : ℕ) (can : CanStep rules lows ups firsts edges sets met q c k) where
+  pub step-out : CanOut rules lows ups sets k
   step-out =
       let t = can .tables in
       let b = t .bounds in
@@ -205,10 +215,16 @@ module _ (kills gens assigns preds starts lows ups sets met q : List ℕ) (c : C
         own = omega (arith, can .inside, can .hands .sets-fit);
         low = omega (arith, can .inside, can .nodes, b .lows-long);
         up = omega (arith, can .inside, can .nodes, b .ups-long);
-        rules = λ block. within (upper-inside (can .code) (can .sound) lows ups b k block (omega (arith, can .inside, can .nodes)));
+        rule-room = λ block. record { fit = omega (arith, can .tables .room .fit, upper-inside (can .code) (can .sound) lows ups b k block (omega (arith, can .inside, can .nodes))) };
       }
-    where
-      within : getD ups (k - 2) 0 < length (can .code) → RuleRoom (getD ups (k - 2) 0 + 1) kills gens assigns
-      within h =
-          let r = can .tables .room in
-          record { kills-fit = omega (arith, r .kills-fit); gens-fit = omega (arith, r .gens-fit); assigns-fit = omega (arith, r .assigns-fit) }
+
+  -- where m is what it hands on
+  pub step-hands : (m : ℕ) → m ≡ given (can .code) sets k → CanHandKey firsts edges sets met q c k m
+  step-hands m e = record {
+    code = can .code;
+    leads-are = can .tables .leads-are;
+    nodes = can .nodes;
+    few = can .few;
+    inside = can .inside;
+    hands = subst (CanHand (length met) sets met q c (leads (can .code) k)) (sym e) (can .hands);
+  }

@@ -10,6 +10,7 @@ use lib.Dec.{leb}
 use lib.ListN.{getD, length, take, length-take, List·getD-eq-default}
 use lib.Seq.{getD-take}
 use Rattle.base.specs.Sizes.{maxLocals, maxInstructions, listPlaces, recordBytes, blockRecords}
+use Rattle.base.specs.Bytes.{u16At}
 use Rattle.base.specs.Refusals.{Accepted}
 use Rattle.base.specs.Lists.{all, zeros}
 use Rattle.base.specs.ListLaws.{and-true, getD-in, getD-tab}
@@ -22,8 +23,9 @@ use Rattle.sheet.specs.Layout.{countOf, localsOf, recordBlocks, recordStart, re
 use Rattle.sheet.specs.Checks.{shapes, noShape, shapeOf, recordOk, placeOk, checkSheet}
 use Rattle.sheet.specs.CheckLaws.{clear, code-length, code-sound, locals-lt}
 use Rattle.sheet.specs.AcceptedLaws.{Fits, is-fits}
-use Rattle.sheet.specs.Valid.{Valid, accepted-valid}
-use Rattle.livevar_analysis.specs.Rules.{Below, InRange}
+use Rattle.sheet.specs.Valid.{Valid}
+use Rattle.sheet.specs.ValidLaws.{accepted-valid}
+use Rattle.livevar_analysis.specs.Rules.{ListedLocals, InRange}
 use Rattle.livevar_analysis.specs.Engine.{Analyzable}
 
 -- ---- the table of kinds
@@ -44,7 +46,7 @@ few-places k =
     let both = and-true (leb (shapeOf k .dhigh) listPlaces) (leb (shapeOf k .shigh) listPlaces) (all-short shapes k refl) in
     (leb-true _ listPlaces (both .0), leb-true _ listPlaces (both .1))
 
-below-by : (n : ℕ) (list : List ℕ) → n ≤ listPlaces → ((x : ℕ) → List·Memᴰ x (take n list) → x < maxLocals) → Below n list
+below-by : (n : ℕ) (list : List ℕ) → n ≤ listPlaces → ((x : ℕ) → List·Memᴰ x (take n list) → x < maxLocals) → ListedLocals n list
 below-by n list l h = record {
   few = l;
   each = λ i g. by-lt i (length list) (λ q. h (getD list i 0) (subst (λ (x : ℕ). List·Memᴰ x (take n list)) (getD-take n list i 0 g) (getD-in (take n list) i 0 (omega (arith, length-take n list)))))
@@ -103,3 +105,12 @@ module _ (s : List ℕ) (e : checkSheet s ≡ Accepted) where
     narrow = valid .locals;
     sources = locals-lt s e;
   }
+
+-- ---- the count that the code reads
+
+pub count-of : (s : List ℕ) (n : ℕ) → n ≡ u16At s 4 → n ≡ length (codeOf s)
+unfolding countOf
+count-of s n e = e ∙ sym (code-length s)
+
+pub few-count : (s : List ℕ) (n : ℕ) → checkSheet s ≡ Accepted → n ≡ length (codeOf s) → n ≤ maxInstructions
+few-count s n e q = omega (arith, code-length s, accepted-valid s e .few)

@@ -2,6 +2,8 @@
 pub mod Live
 pub mod Analysis
 pub mod LiveCall
+pub mod Needed
+pub mod Term3
 -- What the inner contracts say.
 pub mod Rules
 pub mod Engine
@@ -9,14 +11,15 @@ pub mod Output
 pub mod Prepared
 -- Laws.
 pub mod LiveLaws
+pub mod NeededLaws
 pub mod RuleLaws
+pub mod BlockRuleLaws
 pub mod AnalysisLaws
-pub mod Term3
+pub mod Term3Laws
 pub mod DecodeLaws
 pub mod InputLaws
 pub mod EngineLaws
 pub mod RunLaws
 pub mod OutputLaws
 pub mod PreparedLaws
-pub mod LookupLaws
 pub mod LiveCallLaws

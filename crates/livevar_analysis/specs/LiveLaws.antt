@@ -8,7 +8,8 @@ use mathlib.Core.List.{List·Memᴰ}
 use lib.Dec.{eqb}
 use lib.ListN.{getD}
 use Rattle.dataflow_domains.specs.Mask.{bit, holds, union, minus, setOf, Sub}
-use Rattle.dataflow_domains.specs.MaskLaws.{bit-union, bit-minus, bit-other, sub-refl, union-lt, minus-lt, setOf-lt, union-mono, minus-mono, holds-true, holds-false}
+use Rattle.dataflow_domains.specs.MaskLaws.{bit-union, bit-minus, bit-other, sub-refl, union-lt, minus-lt, setOf-lt, union-mono, minus-mono}
+use Rattle.dataflow_domains.specs.HoldsLaws.{holds-true, holds-false}
 use Rattle.stackless_bytecode.specs.declared.Bytecode.{Bytecode}
 use Rattle.stackless_bytecode.specs.Kinds.{dstsOf, srcsOf}
 use Rattle.livevar_analysis.specs.Live.{assigned, called, execute}

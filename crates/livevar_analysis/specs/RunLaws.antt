@@ -7,11 +7,12 @@ use native.Mathlib.Nat.{mul-le-mul}
 use native.Mathlib.Numerals.{add-one}
 use native.Mathlib.Omega.{arith}
 use lib.Count.{ones, ones-ones}
-use lib.ListN.{getD, set, length, take, replicate, length-set, length-replicate}
-use lib.Seq.{ext-getD}
+use lib.ListN.{getD, set, length, take, drop, replicate, length-set, length-take, length-replicate, List·getD-eq-default}
+use lib.Seq.{ext-getD, getD-take}
 use lib.Pow.{ones-lt}
 use Rattle.base.specs.Sizes.{setWords, maxLocals, maxInstructions, takenBound, maxTaken}
 use Rattle.base.specs.Lists.{over, keep}
+use Rattle.base.specs.JoinLaws.{by-lt}
 use Rattle.base.specs.ListLaws.{by-test, in-take, getD-in, copies-at}
 use Rattle.dataflow_domains.specs.MaskLaws.{sub-full, sub-lt}
 use Rattle.dataflow_domains.specs.Sets.{setAt, setsOf}
@@ -19,19 +20,23 @@ use Rattle.dataflow_domains.specs.SliceLaws.{masks-zeros}
 use Rattle.dataflow_analysis.specs.declared.Cursor.{Cursor}
 use Rattle.dataflow_analysis.specs.Worklist.{State, begin, receive, news, popped, step, run}
 use Rattle.dataflow_analysis.specs.WorklistLaws as general
-use Rattle.dataflow_analysis.specs.MaskList.{masks, mask-laws, mask-size, met-inside}
-use Rattle.dataflow_analysis.specs.Queue.{listOf, Put, stateOf}
+use Rattle.dataflow_analysis.specs.Lattice.{masks}
+use Rattle.dataflow_analysis.specs.MaskListLaws.{mask-laws, mask-size, met-inside}
+use Rattle.dataflow_analysis.specs.Queue.{listOf, Queued, stateOf}
 use Rattle.dataflow_analysis.specs.QueueLaws.{list-none, Took, took-popped, run-more, run-done}
 use Rattle.dataflow_analysis.specs.ReceiptLaws.{at-node}
 use Rattle.stackless_bytecode.specs.declared.Bytecode.{Bytecode}
-use Rattle.stackless_bytecode.specs.SuccessorLaws.{Sound}
+use Rattle.stackless_bytecode.specs.Sound.{Sound}
 use Rattle.stackless_control_flow_graph.specs.Blocks.{starts, lowers, blocksOf, keyed}
 use Rattle.livevar_analysis.specs.Live.{execute}
 use Rattle.livevar_analysis.specs.LiveLaws.{transfer-lt}
 use Rattle.livevar_analysis.specs.Analysis.{outOf, analyzeFunction}
 use Rattle.livevar_analysis.specs.AnalysisLaws.{graph, narrow, bound-fits}
+use Rattle.stackless_control_flow_graph.specs.Graph.{Bounds, Edges}
 use Rattle.stackless_control_flow_graph.specs.FlowLaws.{keys-blocks}
-use Rattle.livevar_analysis.specs.Engine.{Analyzable, Tables, leads, given, stateAt, CanHand, HandedOn, CanStep, Begun, CanRun, Input, Solved}
+use Rattle.livevar_analysis.specs.Engine.{Analyzable, Tables, leads, given, stateAt, CanHand, HandedOn, CanOut, CanHandKey, Begun, CanRun, Input, SolveInput, Solved}
+use Rattle.livevar_analysis.specs.Rules.{Ruled}
+use Rattle.livevar_analysis.specs.EngineLaws.{CanStep, step-out, step-hands, handed-as}
 
 -- ---- how many keys there are, and how many are taken
 
@@ -167,16 +172,16 @@ module _ (code : List Bytecode) (locals : ℕ) (ok : Analyzable code locals) whe
 
 -- ---- the loop over the slices
 
-module _ (kills gens assigns preds starts lows ups sets₀ met₀ q₀ : List ℕ) (c₀ : Cursor) where
+module _ (rules lows ups firsts edges sets₀ met₀ q₀ : List ℕ) (c₀ : Cursor) where
   -- for whatever code the tables are, the slices have a state of its run
   pub record Held (sets met q : List ℕ) (c : Cursor) : Type 0 where
-    pub runs : (code : List Bytecode) (locals : ℕ) → Begun code locals kills gens assigns preds starts lows ups sets₀ met₀ q₀ c₀ → Runs code locals (stateAt (2 + length (keyed code)) sets met q c)
+    pub runs : (code : List Bytecode) (locals : ℕ) → Begun code locals rules lows ups firsts edges sets₀ met₀ q₀ c₀ → Runs code locals (stateAt (2 + length (keyed code)) sets met q c)
     pub list-fits : c .head + c .len ≤ length q
     pub sets-kept : length sets ≡ length sets₀
     pub met-kept : length met ≡ length met₀
     pub q-kept : length q ≡ length q₀
 
-  module _ (can : CanRun kills gens assigns preds starts lows ups sets₀ met₀ q₀ c₀) where
+  module _ (can : CanRun rules lows ups firsts edges sets₀ met₀ q₀ c₀) where
     pub held-begin : Held sets₀ met₀ q₀ c₀
     held-begin = record {
       runs = λ code locals b. subst (Runs code locals) (sym (b .state)) (runs-begin code locals (b .analyzable));
@@ -190,8 +195,7 @@ module _ (kills gens assigns preds starts lows ups sets₀ met₀ q₀ : List �
       within : next .head + next .len ≤ length q
       within = omega (arith, took .same-end, h .list-fits)
 
-      -- what `step` requires
-      pub held-asks : CanStep kills gens assigns preds starts lows ups sets met q next k
+      held-asks : CanStep rules lows ups firsts edges sets met q next k
       held-asks =
           let a = can .begun .analyzable in
           let nodes : length met ≡ 2 + length (keyed (can .code)) = h .met-kept ∙ can .begun .nodes in
@@ -208,34 +212,49 @@ module _ (kills gens assigns preds starts lows ups sets₀ met₀ q₀ : List �
             hands = subst (λ (n : ℕ). CanHand n sets met q next (leads (can .code) k) (given (can .code) sets k)) (sym nodes) (runs-hands (can .code) (can .locals) a sets met q c next k took fits nodes long within r);
           }
 
-      module _ (sets₁ met₁ q₁ : List ℕ) (next₁ : Cursor)
-          (stepped : (code : List Bytecode) → Sound code → Tables code kills gens assigns preds starts lows ups → length met ≡ 2 + length (keyed code)
-          → HandedOn (length met) sets met q next (leads code k) (given code sets k) sets₁ met₁ q₁ next₁) where
-        -- the head has moved by one
-        handed : HandedOn (length met) sets met q next (leads (can .code) k) (given (can .code) sets k) sets₁ met₁ q₁ next₁
-        handed = stepped (can .code) (can .begun .analyzable .sound) (can .begun .tables) (h .met-kept ∙ can .begun .nodes)
+      -- what `out_of` requires
+      pub held-out : CanOut rules lows ups sets k
+      held-out = step-out rules lows ups firsts edges sets met q next k held-asks
 
-        pub held-head : next₁ .head ≡ c .head + 1
-        held-head = handed .same-head ∙ took .next-head
+      module _ (m : ℕ) (out : (code : List Bytecode) → Sound code → Ruled code rules → Bounds code lows ups → k < 2 + length (keyed code) → m ≡ given code sets k) where
+        is-given : (code : List Bytecode) → Sound code → Tables code rules lows ups firsts edges → length met ≡ 2 + length (keyed code) → m ≡ given code sets k
+        is-given code sound t nodes = out code sound (t .ruled) (t .bounds) (omega (arith, held-asks .inside))
 
-        pub held-more : length sets₁ ≡ length sets → length met₁ ≡ length met → length q₁ ≡ length q → Held sets₁ met₁ q₁ next₁
-        held-more ls lm lq = record {
-          runs = more;
-          list-fits = omega (arith, handed .list-fits);
-          sets-kept = ls ∙ h .sets-kept;
-          met-kept = lm ∙ h .met-kept;
-          q-kept = lq ∙ h .q-kept;
-        }
-          where
-            more : (code : List Bytecode) (locals : ℕ) → Begun code locals kills gens assigns preds starts lows ups sets₀ met₀ q₀ c₀ → Runs code locals (stateAt (2 + length (keyed code)) sets₁ met₁ q₁ next₁)
-            more code locals b =
-                let nodes : length met ≡ 2 + length (keyed code) = h .met-kept ∙ b .nodes in
-                runs-turn code locals (b .analyzable) sets met q c next k took (omega (arith, b .sets-fit, h .met-kept, h .sets-kept)) nodes (h .q-kept ∙ b .list-long) within (h .runs code locals b) sets₁ met₁ q₁ next₁
-                (subst (λ (n : ℕ). HandedOn n sets met q next (leads code k) (given code sets k) sets₁ met₁ q₁ next₁) nodes (stepped code (b .analyzable .sound) (b .tables) nodes))
+        -- what `hand_key` requires
+        pub held-hands : CanHandKey firsts edges sets met q next k m
+        held-hands = step-hands rules lows ups firsts edges sets met q next k held-asks m (is-given (held-asks .code) (held-asks .sound) (held-asks .tables) (held-asks .nodes))
+
+        module _ (sets₁ met₁ q₁ : List ℕ) (next₁ : Cursor)
+            (hand : (code : List Bytecode) → Edges code firsts edges → length met ≡ 2 + length (keyed code) → HandedOn (length met) sets met q next (leads code k) m sets₁ met₁ q₁ next₁) where
+          stepped : (code : List Bytecode) → Sound code → Tables code rules lows ups firsts edges → length met ≡ 2 + length (keyed code)
+              → HandedOn (length met) sets met q next (leads code k) (given code sets k) sets₁ met₁ q₁ next₁
+          stepped code sound t nodes = handed-as (length met) sets met q next sets₁ met₁ q₁ next₁ refl (is-given code sound t nodes) (hand code (t .leads-are) nodes)
+
+          -- the head has moved by one
+          handed : HandedOn (length met) sets met q next (leads (can .code) k) (given (can .code) sets k) sets₁ met₁ q₁ next₁
+          handed = stepped (can .code) (can .begun .analyzable .sound) (can .begun .tables) (h .met-kept ∙ can .begun .nodes)
+
+          pub held-head : next₁ .head ≡ c .head + 1
+          held-head = handed .same-head ∙ took .next-head
+
+          pub held-more : length sets₁ ≡ length sets → length met₁ ≡ length met → length q₁ ≡ length q → Held sets₁ met₁ q₁ next₁
+          held-more ls lm lq = record {
+            runs = more;
+            list-fits = omega (arith, handed .list-fits);
+            sets-kept = ls ∙ h .sets-kept;
+            met-kept = lm ∙ h .met-kept;
+            q-kept = lq ∙ h .q-kept;
+          }
+            where
+              more : (code : List Bytecode) (locals : ℕ) → Begun code locals rules lows ups firsts edges sets₀ met₀ q₀ c₀ → Runs code locals (stateAt (2 + length (keyed code)) sets₁ met₁ q₁ next₁)
+              more code locals b =
+                  let nodes : length met ≡ 2 + length (keyed code) = h .met-kept ∙ b .nodes in
+                  runs-turn code locals (b .analyzable) sets met q c next k took (omega (arith, b .sets-fit, h .met-kept, h .sets-kept)) nodes (h .q-kept ∙ b .list-long) within (h .runs code locals b) sets₁ met₁ q₁ next₁
+                  (subst (λ (n : ℕ). HandedOn n sets met q next (leads code k) (given code sets k) sets₁ met₁ q₁ next₁) nodes (stepped code (b .analyzable .sound) (b .tables) nodes))
 
     -- the end: the list is empty
     pub held-done : (sets met q : List ℕ) (c : Cursor) → Held sets met q c → listOf q c ≡ []
-        → (code : List Bytecode) (locals : ℕ) → Begun code locals kills gens assigns preds starts lows ups sets₀ met₀ q₀ c₀ → Solved code locals (c .head) sets
+        → (code : List Bytecode) (locals : ℕ) → Begun code locals rules lows ups firsts edges sets₀ met₀ q₀ c₀ → Solved code locals (c .head) sets
     unfolding stateOf
     held-done sets met q c h e code locals b =
         let is = runs-done code locals (b .analyzable) (stateAt (2 + length (keyed code)) sets met q c) e (h .runs code locals b) in
@@ -243,8 +262,8 @@ module _ (kills gens assigns preds starts lows ups sets₀ met₀ q₀ : List �
 
 -- ---- the beginning: all is 0, and key 1 is met and waits
 
-module _ (code : List Bytecode) (locals : ℕ) (kills gens assigns preds starts lows ups sets met q : List ℕ) (input : Input code locals kills gens assigns preds starts lows ups sets met q)
-    (none c : Cursor) (q₁ : List ℕ) (first : none .head ≡ 0) (empty : none .len ≡ 0) (put : Put q none 1 q₁ c) (long : length q₁ ≡ length q) where
+module _ (code : List Bytecode) (locals : ℕ) (rules lows ups firsts edges sets met q : List ℕ) (input : Input code locals rules lows ups firsts edges sets met q)
+    (none c : Cursor) (q₁ : List ℕ) (first : none .head ≡ 0) (empty : none .len ≡ 0) (put : Queued q none 1 q₁ c) (long : length q₁ ≡ length q) where
   no-sets : setsOf (2 + length (keyed code)) sets ≡ replicate (2 + length (keyed code)) 0
   unfolding setsOf
   no-sets = masks-zeros 64 setWords (2 + length (keyed code)) sets (input .sets-blank)
@@ -261,7 +280,7 @@ module _ (code : List Bytecode) (locals : ℕ) (kills gens assigns preds starts 
       let start : c .head ≡ 0 = put .same-head ∙ first in
       rw (no-sets, none-met, list, start)
 
-  pub begun : Begun code locals kills gens assigns preds starts lows ups sets (set met 1 1) q₁ c
+  pub begun : Begun code locals rules lows ups firsts edges sets (set met 1 1) q₁ c
   begun = record {
     analyzable = input .analyzable;
     tables = input .tables;
@@ -271,3 +290,28 @@ module _ (code : List Bytecode) (locals : ℕ) (kills gens assigns preds starts 
     list-fits = omega (arith, put .same-head, put .longer, long, input .list-long);
     state = state-begun;
   }
+
+-- ---- the arrays that solve makes
+
+part-blank : (m n k : ℕ) → getD (take m (replicate {A = ℕ} n 0)) k 0 ≡ 0
+part-blank m n k =
+    by-lt k m (λ h. getD-take m (replicate n 0) k 0 h ∙ copies-at n k 0)
+    (λ h. List·getD-eq-default (take m (replicate n 0)) 0 {n = k} (omega (arith, length-take m (replicate {A = ℕ} n 0))))
+
+module _ {code : List Bytecode} {locals : ℕ} {rules lows ups firsts edges : List ℕ} {m : ℕ} {sets : List ℕ} (input : SolveInput code locals rules lows ups firsts edges m sets) where
+  pub few-nodes : m ≤ maxInstructions
+  few-nodes = omega (arith, input .count, keys-few code (input .analyzable .sound), input .analyzable .few)
+
+  pub start-input : Input code locals rules lows ups firsts edges sets (take (m + 2 - 0) (drop 0 (replicate (maxInstructions + 2) 0))) (replicate maxTaken 0)
+  start-input = record {
+    analyzable = input .analyzable;
+    tables = input .tables;
+    nodes = long ∙ (omega (arith, input .count));
+    sets-fit = omega (arith, ap (λ (x : ℕ). x * setWords) long, input .sets-fit);
+    list-long = length-replicate {A = ℕ} maxTaken 0;
+    sets-blank = input .sets-blank;
+    met-blank = part-blank (m + 2 - 0) (maxInstructions + 2);
+  }
+    where
+      long : length (take (m + 2 - 0) (drop 0 (replicate {A = ℕ} (maxInstructions + 2) 0))) ≡ m + 2
+      long = length-take (m + 2 - 0) (replicate (maxInstructions + 2) 0) ∙ (omega (arith, few-nodes, length-replicate {A = ℕ} (maxInstructions + 2) 0))

@@ -6,47 +6,50 @@ ghost use lib.ListN.{length, take, drop};
 ghost use Rattle.base.specs.Lists.{tab};
 ghost use Rattle.dataflow_domains.specs.Sets.{mask};
 ghost use Rattle.stackless_bytecode.specs.declared.Bytecode.{Bytecode};
-ghost use Rattle.stackless_bytecode.specs.SuccessorLaws.{Sound};
+ghost use Rattle.stackless_bytecode.specs.Sound.{Sound};
 ghost use Rattle.stackless_control_flow_graph.specs.Blocks.{keyed};
+ghost use Rattle.stackless_control_flow_graph.specs.Graph.{Bounds, Edges};
 ghost use Rattle.livevar_analysis.specs.Analysis.{executeAll};
 ghost use Rattle.livevar_analysis.specs.Rules.{ruleAt, Ruled, RuleRoom};
-ghost use Rattle.livevar_analysis.specs.Engine.{Bounds, Tables, CanHand, HandedOn, CanOut, given, leads, CanStep, Begun, CanRun, Input, CanSolve, Solved};
+ghost use Rattle.livevar_analysis.specs.Engine.{Tables, CanHand, HandedOn, CanOut, given, leads, CanHandKey, Begun, CanRun, Input, CanStart, SolveInput, CanSolve, Solved};
+use crate::rules::RULE_SETS;
+use base::MAX_INSTRUCTIONS;
+use base::MAX_TAKEN;
+use base::width::u16_to_usize;
 use dataflow_analysis::Cursor;
-use dataflow_analysis::Taken;
+use dataflow_analysis::FirstKey;
 use dataflow_analysis::receive_at;
 use dataflow_domains::LiveVarState;
 
-// Rule k of the slices, applied to the set m after it.
-pub fn apply(kills: &[u64], gens: &[u64], assigns: &[u8], k: usize, m: LiveVarState) -> LiveVarState
-    requires { ⌜ RuleRoom (k + 1) (now kills) (now gens) (now assigns) ⌝ }
-    ensures { λ r. ⌜ mask r ≡ ruleAt (now (kills .entry)) (now (gens .entry)) (now (assigns .entry)) k (mask m) ⌝ }
+// The keys of the most blocks, and the two dummies.
+pub const NODES: usize = MAX_INSTRUCTIONS + 2;
+
+// Rule k of the slice, applied to the set m after it.
+pub fn apply(rules: &[u64], k: usize, m: LiveVarState) -> LiveVarState
+    requires { ⌜ RuleRoom (k + 1) (now rules) ⌝ }
+    ensures { λ r. ⌜ mask r ≡ ruleAt (now (rules .entry)) k (mask m) ⌝ }
 {
-    let rest = m.without(LiveVarState::load(kills, k));
-    if assigns[k] == 1 {
+    let at = RULE_SETS * k;
+    let rest = m.without(LiveVarState::load(rules, at));
+    let flag = LiveVarState::load(rules, at + 2);
+    if !flag.is_empty() {
         if rest.same(m) {
             return m;
         }
     }
-    LiveVarState::load(gens, k).union(rest)
+    LiveVarState::load(rules, at + 1).union(rest)
 }
 
 // The set before the instructions from `lower` to `upper`, from the set m after them.
-pub fn execute_block(
-    kills: &[u64],
-    gens: &[u64],
-    assigns: &[u8],
-    lower: usize,
-    upper: usize,
-    m: LiveVarState,
-) -> LiveVarState
-    requires { ⌜ RuleRoom (upper + 1) (now kills) (now gens) (now assigns) ⌝ }
-    ensures { λ r. ⌜ ((code : List Bytecode) → Ruled code (now (kills .entry)) (now (gens .entry)) (now (assigns .entry)) → upper < length code → mask r ≡ executeAll (take (suc upper - lower) (drop lower code)) (mask m)) ⌝ }
+pub fn execute_block(rules: &[u64], lower: usize, upper: usize, m: LiveVarState) -> LiveVarState
+    requires { ⌜ RuleRoom (upper + 1) (now rules) ⌝ }
+    ensures { λ r. ⌜ ((code : List Bytecode) → Ruled code (now (rules .entry)) → upper < length code → mask r ≡ executeAll (take (suc upper - lower) (drop lower code)) (mask m)) ⌝ }
 {
     let mut k = upper + 1;
     let mut set = m;
     while lower < k {
         k -= 1;
-        set = apply(kills, gens, assigns, k, set);
+        set = apply(rules, k, set);
     }
     set
 }
@@ -92,137 +95,134 @@ fn hand_all(
     c
 }
 
-fn wide(x: u16) -> usize
-    ensures { λ r. ⌜ r ≡ x ⌝ }
-{
-    x as usize
-}
-
 // What key k hands on: a dummy its own set, a block the set before it.
 fn out_of(
-    kills: &[u64],
-    gens: &[u64],
-    assigns: &[u8],
-    lows: &[u16],
-    ups: &[u16],
+    rules: &[u64],
+    lower_of_key: &[u16],
+    upper_of_key: &[u16],
     sets: &[u64],
     k: u16,
 ) -> LiveVarState
-    requires { ⌜ CanOut (now kills) (now gens) (now assigns) (now lows) (now ups) (now sets) k ⌝ }
-    ensures { λ r. ⌜ ((code : List Bytecode) → Sound code → Ruled code (now (kills .entry)) (now (gens .entry)) (now (assigns .entry)) → Bounds code (keyed code) (now (lows .entry)) (now (ups .entry)) → k < 2 + length (keyed code) → mask r ≡ given code (now (sets .entry)) k) ⌝ }
+    requires { ⌜ CanOut (now rules) (now «lower_of_key») (now «upper_of_key») (now sets) k ⌝ }
+    ensures { λ r. ⌜ ((code : List Bytecode) → Sound code → Ruled code (now (rules .entry)) → Bounds code (now («lower_of_key» .entry)) (now («upper_of_key» .entry)) → k < 2 + length (keyed code) → mask r ≡ given code (now (sets .entry)) k) ⌝ }
 {
-    let key = wide(k);
+    let key = u16_to_usize(k);
     let own = LiveVarState::load(sets, key);
     if key < 2 {
         return own;
     }
     let b = key - 2;
-    let lower = wide(lows[b]);
-    let upper = wide(ups[b]);
-    execute_block(kills, gens, assigns, lower, upper, own)
+    let lower = u16_to_usize(lower_of_key[b]);
+    let upper = u16_to_usize(upper_of_key[b]);
+    execute_block(rules, lower, upper, own)
 }
 
-// Key k, which is off the list, hands on: key 1 to all blocks, any other to its part of `preds`.
-fn step(
-    kills: &[u64],
-    gens: &[u64],
-    assigns: &[u8],
-    preds: &[u16],
-    starts: &[u16],
-    lows: &[u16],
-    ups: &[u16],
+// Key k, which is off the list, hands on m: key 1 to all blocks, any other to its part of `edges`.
+fn hand_key(
+    first_edge: &[u16],
+    edges: &[u16],
     sets: &mut [u64],
     met: &mut [u8],
     q: &mut [u16],
     c: Cursor,
     k: u16,
+    m: LiveVarState,
 ) -> Cursor
-    requires { ⌜ CanStep (now kills) (now gens) (now assigns) (now preds) (now starts) (now lows) (now ups) (now sets) (now met) (now q) c k ⌝ }
-    ensures { λ r. ⌜ ((code : List Bytecode) → Sound code → Tables code (now (kills .entry)) (now (gens .entry)) (now (assigns .entry)) (now (preds .entry)) (now (starts .entry)) (now (lows .entry)) (now (ups .entry)) → length (now (met .entry)) ≡ 2 + length (keyed code) → HandedOn (length (now (met .entry))) (now (sets .entry)) (now (met .entry)) (now (q .entry)) c (leads code k) (given code (now (sets .entry)) k) (now (sets .exit)) (now (met .exit)) (now (q .exit)) r) ⌝ }
+    requires { ⌜ CanHandKey (now «first_edge») (now edges) (now sets) (now met) (now q) c k (mask m) ⌝ }
+    ensures { λ r. ⌜ ((code : List Bytecode) → Edges code (now («first_edge» .entry)) (now (edges .entry)) → length (now (met .entry)) ≡ 2 + length (keyed code) → HandedOn (length (now (met .entry))) (now (sets .entry)) (now (met .entry)) (now (q .entry)) c (leads code k) (mask m) (now (sets .exit)) (now (met .exit)) (now (q .exit)) r) ⌝ }
 {
-    let m = out_of(kills, gens, assigns, lows, ups, sets, k);
     if k == 1 {
         return hand_all(sets, met, q, c, m);
     }
-    let key = wide(k);
-    let from = wide(starts[key]);
-    let to = wide(starts[key + 1]);
-    hand_on(sets, met, q, c, &preds[from..to], m)
+    let key = u16_to_usize(k);
+    let from = u16_to_usize(first_edge[key]);
+    let to = u16_to_usize(first_edge[key + 1]);
+    hand_on(sets, met, q, c, &edges[from..to], m)
 }
 
 // Keys are taken from the list until it is empty. Every one moves the cursor's head, so that in the end the head is the count.
 fn run(
-    kills: &[u64],
-    gens: &[u64],
-    assigns: &[u8],
-    preds: &[u16],
-    starts: &[u16],
-    lows: &[u16],
-    ups: &[u16],
+    rules: &[u64],
+    lower_of_key: &[u16],
+    upper_of_key: &[u16],
+    first_edge: &[u16],
+    edges: &[u16],
     sets: &mut [u64],
     met: &mut [u8],
     q: &mut [u16],
     start: Cursor,
 ) -> u32
-    requires { ⌜ CanRun (now kills) (now gens) (now assigns) (now preds) (now starts) (now lows) (now ups) (now sets) (now met) (now q) start ⌝ }
-    ensures { λ r. ⌜ ((code : List Bytecode) (locals : ℕ) → Begun code locals (now (kills .entry)) (now (gens .entry)) (now (assigns .entry)) (now (preds .entry)) (now (starts .entry)) (now (lows .entry)) (now (ups .entry)) (now (sets .entry)) (now (met .entry)) (now (q .entry)) start → Solved code locals r (now (sets .exit))) ⌝ }
+    requires { ⌜ CanRun (now rules) (now «lower_of_key») (now «upper_of_key») (now «first_edge») (now edges) (now sets) (now met) (now q) start ⌝ }
+    ensures { λ r. ⌜ ((code : List Bytecode) (locals : ℕ) → Begun code locals (now (rules .entry)) (now («lower_of_key» .entry)) (now («upper_of_key» .entry)) (now («first_edge» .entry)) (now (edges .entry)) (now (sets .entry)) (now (met .entry)) (now (q .entry)) start → Solved code locals r (now (sets .exit))) ⌝ }
 {
     let mut c = start;
     loop {
         match c.take(q) {
-            Taken::Key(k, next) => {
-                c = step(
-                    kills,
-                    gens,
-                    assigns,
-                    preds,
-                    starts,
-                    lows,
-                    ups,
-                    sets,
-                    met,
-                    q,
-                    next,
-                    k,
-                );
+            FirstKey::Key(k, next) => {
+                let m = out_of(rules, lower_of_key, upper_of_key, sets, k);
+                c = hand_key(first_edge, edges, sets, met, q, next, k, m);
             }
-            Taken::Empty => {
+            FirstKey::Empty => {
                 return c.head as u32;
             }
         }
     }
 }
 
-// The sets of all keys, in `sets`, and how many keys were taken. Key 1 is met and waits first.
-pub fn solve(
-    kills: &[u64],
-    gens: &[u64],
-    assigns: &[u8],
-    preds: &[u16],
-    starts: &[u16],
-    lows: &[u16],
-    ups: &[u16],
+// The run from the start: key 1 is met and waits first.
+fn start_run(
+    rules: &[u64],
+    lower_of_key: &[u16],
+    upper_of_key: &[u16],
+    first_edge: &[u16],
+    edges: &[u16],
     sets: &mut [u64],
     met: &mut [u8],
     q: &mut [u16],
 ) -> u32
-    requires { ⌜ CanSolve (now kills) (now gens) (now assigns) (now preds) (now starts) (now lows) (now ups) (now sets) (now met) (now q) ⌝ }
-    ensures { λ r. ⌜ ((code : List Bytecode) (locals : ℕ) → Input code locals (now (kills .entry)) (now (gens .entry)) (now (assigns .entry)) (now (preds .entry)) (now (starts .entry)) (now (lows .entry)) (now (ups .entry)) (now (sets .entry)) (now (met .entry)) (now (q .entry)) → Solved code locals r (now (sets .exit))) ⌝ }
+    requires { ⌜ CanStart (now rules) (now «lower_of_key») (now «upper_of_key») (now «first_edge») (now edges) (now sets) (now met) (now q) ⌝ }
+    ensures { λ r. ⌜ ((code : List Bytecode) (locals : ℕ) → Input code locals (now (rules .entry)) (now («lower_of_key» .entry)) (now («upper_of_key» .entry)) (now («first_edge» .entry)) (now (edges .entry)) (now (sets .entry)) (now (met .entry)) (now (q .entry)) → Solved code locals r (now (sets .exit))) ⌝ }
 {
     let none = Cursor::new();
     let start = none.put(q, 1);
     met[1] = 1;
     run(
-        kills,
-        gens,
-        assigns,
-        preds,
-        starts,
-        lows,
-        ups,
+        rules,
+        lower_of_key,
+        upper_of_key,
+        first_edge,
+        edges,
         sets,
         met,
         q,
         start,
+    )
+}
+
+// The sets of all keys of m blocks, in `sets`, which are blank, and how many keys were taken.
+pub fn solve(
+    rules: &[u64],
+    lower_of_key: &[u16],
+    upper_of_key: &[u16],
+    first_edge: &[u16],
+    edges: &[u16],
+    m: usize,
+    sets: &mut [u64],
+) -> u32
+    requires { ⌜ CanSolve (now rules) (now «lower_of_key») (now «upper_of_key») (now «first_edge») (now edges) m (now sets) ⌝ }
+    ensures { λ r. ⌜ ((code : List Bytecode) (locals : ℕ) → SolveInput code locals (now (rules .entry)) (now («lower_of_key» .entry)) (now («upper_of_key» .entry)) (now («first_edge» .entry)) (now (edges .entry)) m (now (sets .entry)) → Solved code locals r (now (sets .exit))) ⌝ }
+{
+    let mut met = [0u8; NODES];
+    let mut q = [0u16; MAX_TAKEN];
+    let nodes = m + 2;
+    start_run(
+        rules,
+        lower_of_key,
+        upper_of_key,
+        first_edge,
+        edges,
+        sets,
+        &mut met[0..nodes],
+        &mut q,
     )
 }

@@ -1,6 +1,6 @@
-// The live rule of each instruction, decoded once a call into two sets and a flag. Assumes nothing.
+// The live rule of each instruction, decoded once a call into three sets of a slice. Assumes nothing.
 ghost use mathlib.Core.Path.{_≡_};
-ghost use mathlib.Core.Bool.{cond};
+ghost use mathlib.Core.Bool.{cond, not};
 ghost use Prim.Native.Nat.{ℕ, _+_, _^_, _<_};
 ghost use lib.Dec.{eqb};
 ghost use lib.ListN.{take};
@@ -11,11 +11,14 @@ ghost use Rattle.dataflow_domains.specs.Sets.{mask};
 ghost use Rattle.sheet.specs.Layout.{countOf, codeOf};
 ghost use Rattle.sheet.specs.Checks.{checkSheet};
 ghost use Rattle.livevar_analysis.specs.Live.{execute};
-ghost use Rattle.livevar_analysis.specs.Rules.{applied, Below, InRange, Ruled, RuleRoom, RulePut};
+ghost use Rattle.livevar_analysis.specs.Rules.{applied, ListedLocals, InRange, Ruled, RuleRoom, RulePut};
 use base::LIST_PLACES;
 use dataflow_domains::LiveVarState;
 use sheet::reader::instruction_at;
 use stackless_bytecode::Bytecode;
+
+// The sets of a rule in a slice of rules: what goes out, what comes in, and of an Assign alone a set that is not empty.
+pub const RULE_SETS: usize = 3;
 
 // What an instruction does to the set behind it: `kills` go out and `gens` come in; of an Assign only where the set has one of `kills`.
 pub struct Rule {
@@ -26,7 +29,7 @@ pub struct Rule {
 
 // The set of the first n places of a list.
 pub fn set_of(list: [u8; LIST_PLACES], n: u8) -> LiveVarState
-    requires { ⌜ Below n list ⌝ }
+    requires { ⌜ ListedLocals n list ⌝ }
     ensures { λ r. ⌜ mask r ≡ setOf (take n list) ⌝ }
 {
     let end = n as usize;
@@ -62,6 +65,19 @@ fn call_rule(r: Bytecode) -> Rule
     let last = gone(r.flag, r.abort);
     let kills = out.union(last);
     let gens = into.without(last);
+    Rule {
+        kills,
+        gens,
+        assign: false,
+    }
+}
+
+// Nothing goes out and nothing comes in.
+fn no_rule() -> Rule
+    ensures { λ x. ⌜ ((m : ℕ) → applied (x .assign) (mask (x .kills)) (mask (x .gens)) m ≡ m) ⌝ }
+{
+    let kills = LiveVarState::empty();
+    let gens = LiveVarState::empty();
     Rule {
         kills,
         gens,
@@ -110,40 +126,48 @@ pub fn rule_of(r: Bytecode) -> Rule
                 assign: false,
             }
         }
-        // Jump, Label, Nop, SaveMem, SaveSpecVar
-        _ => {
-            let kills = LiveVarState::empty();
-            let gens = LiveVarState::empty();
-            Rule {
-                kills,
-                gens,
-                assign: false,
-            }
-        }
+        // Jump, Label
+        5..=6 => no_rule(),
+        // Nop, SaveMem, SaveSpecVar
+        8..=10 => no_rule(),
+        // no kind
+        _ => no_rule(),
     }
 }
 
-// Rule k of the slices.
-fn put_rule(r: Rule, kills: &mut [u64], gens: &mut [u64], assigns: &mut [u8], k: usize)
-    requires { ⌜ RuleRoom (k + 1) (now kills) (now gens) (now assigns) ⌝ }
-    ensures { λ _. ⌜ RulePut (now (kills .entry)) (now (gens .entry)) (now (assigns .entry)) k (mask (r .kills)) (mask (r .gens)) (r .assign) (now (kills .exit)) (now (gens .exit)) (now (assigns .exit)) ⌝ }
+// What is stored of an Assign beside its two sets, and of any other instruction.
+fn flag_of(assign: bool) -> LiveVarState
+    ensures { λ r. ⌜ not (eqb (mask r) 0) ≡ assign ⌝ }
+{
+    if assign {
+        return LiveVarState::single(0);
+    }
+    LiveVarState::empty()
+}
+
+// Rule k of the slice.
+fn put_rule(r: Rule, rules: &mut [u64], k: usize)
+    requires { ⌜ RuleRoom (k + 1) (now rules) ⌝ }
+    ensures { λ _. ⌜ RulePut (now (rules .entry)) k (mask (r .kills)) (mask (r .gens)) (r .assign) (now (rules .exit)) ⌝ }
 {
     let out = r.kills;
     let into = r.gens;
-    out.store(kills, k);
-    into.store(gens, k);
-    assigns[k] = r.assign as u8;
+    let flag = flag_of(r.assign);
+    let at = RULE_SETS * k;
+    out.store(rules, at);
+    into.store(rules, at + 1);
+    flag.store(rules, at + 2);
 }
 
 // The rules of a sheet's n instructions.
-pub fn decode_rules(sheet: &[u8], n: usize, kills: &mut [u64], gens: &mut [u64], assigns: &mut [u8])
-    requires { ⌜ (checkSheet (now sheet) ≡ Accepted) × (n ≡ countOf (now sheet)) × RuleRoom n (now kills) (now gens) (now assigns) ⌝ }
-    ensures { λ _. ⌜ Ruled (codeOf (now (sheet .entry))) (now (kills .exit)) (now (gens .exit)) (now (assigns .exit)) ⌝ }
+pub fn decode_rules(sheet: &[u8], n: usize, rules: &mut [u64])
+    requires { ⌜ (checkSheet (now sheet) ≡ Accepted) × (n ≡ countOf (now sheet)) × RuleRoom n (now rules) ⌝ }
+    ensures { λ _. ⌜ Ruled (codeOf (now (sheet .entry))) (now (rules .exit)) ⌝ }
 {
     let mut k = 0;
     while k < n {
         let r = rule_of(instruction_at(sheet, k));
-        put_rule(r, kills, gens, assigns, k);
+        put_rule(r, rules, k);
         k += 1;
     }
 }

@@ -4,9 +4,20 @@ pub mod RewriteAccepted
 pub mod Walk
 pub mod Unchanged
 -- What the inner contracts say.
+pub mod Plan
 pub mod RewriteWork
 -- Laws.
-pub mod RewriteLaws
-pub mod TransformLaws
+pub mod PieceLaws
+pub mod PlaceLaws
+pub mod SoundLaws
+pub mod RewriteAcceptedLaws
+pub mod WalkLaws
+pub mod UnchangedLaws
+pub mod PlanLaws
+pub mod LostLaws
+pub mod HighestLaws
+pub mod NumberLaws
+pub mod PlannedLaws
 pub mod NewCodeLaws
+pub mod RewriteWorkLaws
 pub mod RewriteCallLaws

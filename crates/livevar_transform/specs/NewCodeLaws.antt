@@ -1,19 +1,17 @@
 -- The new code, record behind record: what is written so far, the block of an edge, the kept instructions and all blocks. Assumes nothing.
 use mathlib.Core.Path.{_≡_, refl, sym, ap, ap₂, _∙_, subst}
-use mathlib.Core.Bool.{Bool, true, false, cond, not, true≢false}
+use mathlib.Core.Bool.{Bool, cond}
 use mathlib.Core.List.{List, [], _∷_, _++_}
 use Prim.Native.Nat.{ℕ, suc, _+_, _-_, _*_, _/_, _%_, _^_, _≤_, _<_}
 use native.Mathlib.Numerals.{add-one}
 use native.Mathlib.Omega.{arith}
 use borrow.Author.Tests.{eq-eqb, ne-eqb, lt-ltb}
 use lib.Count.{ones}
-use lib.Dec.{eqb, ltb}
+use lib.Dec.{eqb}
 use lib.ListN.{getD, length, take, drop, length-append, length-drop}
 use lib.Seq.{take-suc, take-all, length-take-le}
-use Rattle.base.specs.Sizes.{maxLocals, maxNumber, maxInstructions, recordBytes}
-use Rattle.base.specs.Lists.{total, joins}
-use Rattle.base.specs.ListLaws.{by-eq}
-use Rattle.base.specs.JoinLaws.{joins-length, total-same, total-le}
+use Rattle.base.specs.Sizes.{maxLocals, recordBytes}
+use Rattle.base.specs.Lists.{joins}
 use Rattle.base.specs.WriteLaws.{drop-front}
 use Rattle.dataflow_domains.specs.Mask.{minus}
 use Rattle.dataflow_domains.specs.MaskLaws.{minus-lt}
@@ -25,27 +23,28 @@ use Rattle.sheet.specs.Layout.{countOf, codeOf, instructionAt, encode}
 use Rattle.sheet.specs.Checks.{checkSheet}
 use Rattle.base.specs.Refusals.{Accepted}
 use Rattle.livevar_analysis.specs.InputLaws.{code-at}
-use Rattle.sheet_writer.specs.RecordsLaws.{placed, placed-none, placed-more, placed-one, tail-put}
-use Rattle.livevar_transform.specs.declared.transform.Next.{Next}
-use Rattle.livevar_analysis.specs.Analysis.{LiveVarInfo}
-use Rattle.livevar_analysis.specs.Output.{infosOf}
-use Rattle.livevar_transform.specs.Rewrite.{made, aimed, into, destroys, destroyBlock, blockSize, isMerged, isDropped, targetOf, lostRefs, isLosing, labelFor, attrFor, goesTo, standsFor, keptCode, blockOn, addedCode, transformCode, nextFreeAttr}
-use Rattle.livevar_transform.specs.RewriteLaws.{destroys-length, destroy-at, block-size, by-stands, edge-target, edge-target-else, is-merged, merged-inside}
-use Rattle.livevar_transform.specs.TransformLaws.{Known, Loses, Numbers, here, size, some-ones, added-is, attr-first, Past, numbers-past}
+use Rattle.sheet_writer.specs.Written.{placed}
+use Rattle.sheet_writer.specs.RecordsLaws.{placed-none, placed-more, placed-one, tail-put}
+use Rattle.livevar_transform.specs.declared.plan.Next.{Next}
+use Rattle.livevar_transform.specs.Rewrite.{made, aimed, into, destroys, destroyBlock, targetOf}
+use Rattle.livevar_transform.specs.PieceLaws.{destroys-length, destroy-at}
+use Rattle.dataflow_domains.specs.Sets.{setAt}
+use Rattle.livevar_transform.specs.Plan.{past, numbersAt, goesAt, aimedAt, standsAt, keptAt, addedAt, keptBy, addedBy, codeBy}
+use Rattle.livevar_transform.specs.NumberLaws.{some-ones, none-lost, some-lost}
 
 -- ---- the Destroys of a set: its members are taken out one by one, the least first
 
 -- i of them are written, and m is left
-pub record Walk (refs : List ℕ) (first : ℕ) (d : List ℕ) (m i : ℕ) (out : List ℕ) : Type 0 where
+pub record DestroysPut (refs : List ℕ) (first : ℕ) (d : List ℕ) (m i : ℕ) (out : List ℕ) : Type 0 where
   pub small : m < 2 ^ maxLocals
   pub inside : i ≤ length refs
   pub rest : drop i refs ≡ members maxLocals m
   pub is : out ≡ placed (take i (destroys first refs)) d
 
-pub walk-none : (first m : ℕ) (d : List ℕ) → m < 2 ^ maxLocals → Walk (members maxLocals m) first d m 0 d
+pub walk-none : (first m : ℕ) (d : List ℕ) → m < 2 ^ maxLocals → DestroysPut (members maxLocals m) first d m 0 d
 walk-none first m d h = record { small = h; inside = omega arith; rest = refl; is = placed-none d }
 
-module _ {refs : List ℕ} {first : ℕ} {d : List ℕ} {m i : ℕ} {out : List ℕ} (w : Walk refs first d m i out) where
+module _ {refs : List ℕ} {first : ℕ} {d : List ℕ} {m i : ℕ} {out : List ℕ} (w : DestroysPut refs first d m i out) where
   pub walk-lt : (m ≡ 0 → ⊥) → i < length refs
   walk-lt f =
       let some : 0 < length (members maxLocals m) = omega (arith, members-length maxLocals m (w .small), some-ones m f) in
@@ -55,7 +54,7 @@ module _ {refs : List ℕ} {first : ℕ} {d : List ℕ} {m i : ℕ} {out : List 
   taken-length = length-take-le i (destroys first refs) (omega (arith, destroys-length first refs, w .inside))
 
   pub walk-next : (x m′ : ℕ) (new : List ℕ) → Lowest m x → m′ ≡ minus m (2 ^ x) → new ≡ encode (made Call Destroy (first + i) 0 (x ∷ []))
-      → Walk refs first d m′ (i + 1) (take (recordBytes * i) out ++ (new ++ drop (recordBytes * i + recordBytes - recordBytes * i) (drop (recordBytes * i) out)))
+      → DestroysPut refs first d m′ (i + 1) (take (recordBytes * i) out ++ (new ++ drop (recordBytes * i + recordBytes - recordBytes * i) (drop (recordBytes * i) out)))
   walk-next x m′ new low em en =
       let span : recordBytes * i + recordBytes - recordBytes * i ≡ recordBytes = omega arith in
       let front = drop-front refs i x (members maxLocals m′) (w .rest ∙ walk-more maxLocals m x low (w .small) ∙ ap (λ (y : ℕ). x ∷ members maxLocals y) (sym em)) in
@@ -77,14 +76,6 @@ module _ {refs : List ℕ} {first : ℕ} {d : List ℕ} {m i : ℕ} {out : List 
       w .is ∙ ap (λ (y : List Bytecode). placed y d) (take-all i (destroys first refs) (omega (arith, none, length-drop i refs, destroys-length first refs)))
 
 -- ---- the block of an edge
-
--- room for the block of the references m: its label, its attribute ids and its records
-pub record Room (x : Next) (m size : ℕ) : Type 0 where
-  pub some : m ≡ 0 → ⊥
-  pub small : m < 2 ^ maxLocals
-  pub label : x .label ≤ maxNumber
-  pub attr : x .attr + ones m + 2 ≤ suc maxNumber
-  pub fits : recordBytes * (ones m + 2) ≤ size
 
 block-is : (a l t : ℕ) (xs : List ℕ) → 0 < length xs → destroyBlock a l t xs ≡ (made Label 0 a l [] ∷ []) ++ destroys (a + 1) xs ++ (made Jump 0 (a + 1 + length xs) t [] ∷ [])
 unfolding destroyBlock
@@ -132,61 +123,18 @@ module _ (a l t m c : ℕ) (d one two three x y : List ℕ) (some : m ≡ 0 → 
 
 -- ---- where an edge goes
 
-losing-is : (xs : List ℕ) (m : ℕ) → Loses xs m → ltb 0 (length xs) ≡ not (eqb m 0)
-losing-is xs m l =
-    by-eq m 0
-    (λ e. ap (λ (y : List ℕ). ltb 0 (length y)) (l .is ∙ ap (members maxLocals) e ∙ walk-end maxLocals 0) ∙ ap not (sym (eq-eqb m 0 e)))
-    (λ f. lt-ltb 0 (length xs) (omega (arith, ap length (l .is), members-length maxLocals m (l .small), some-ones m f)) ∙ ap not (sym (ne-eqb m 0 f)))
+pub goes-old : (m old label : ℕ) → m ≡ 0 → old ≡ goesAt (members maxLocals m) old label
+goes-old m old label e = sym (ap (λ (xs : List ℕ). goesAt xs old label) (none-lost m e))
 
--- the new numbers fit, and so does the new code
-pub record Fitting (s info : List ℕ) (n refs : ℕ) : Type 0 where
-  pub label : (e : ℕ) → e < 2 * n → isLosing (codeOf s) (infosOf n info) refs e ≡ true → labelFor (codeOf s) (infosOf n info) refs e ≤ maxNumber
-  pub attr : (e : ℕ) → e < 2 * n → isLosing (codeOf s) (infosOf n info) refs e ≡ true → attrFor (codeOf s) (infosOf n info) refs e + blockSize (lostRefs (codeOf s) (infosOf n info) refs e) ≤ suc maxNumber
-  pub code : length (transformCode (codeOf s) (infosOf n info) refs) ≤ maxInstructions
+pub goes-new : (m old label : ℕ) → (m ≡ 0 → ⊥) → m < 2 ^ maxLocals → label ≡ goesAt (members maxLocals m) old label
+goes-new m old label f h = sym (ap (λ (b : Bool). cond b label old) (lt-ltb 0 (length (members maxLocals m)) (some-lost m f h)))
 
-module _ (code : List Bytecode) (is : List LiveVarInfo) (refs e m : ℕ) (l : Loses (lostRefs code is refs e) m) where
-  pub some-lost : (m ≡ 0 → ⊥) → isLosing code is refs e ≡ true
-  unfolding isLosing
-  some-lost f = losing-is (lostRefs code is refs e) m l ∙ ap not (ne-eqb m 0 f)
-
-  goes-is : (old label : ℕ) → old ≡ targetOf code e → label ≡ labelFor code is refs e → cond (eqb m 0) old label ≡ goesTo code is refs e
-  unfolding goesTo isLosing
-  goes-is old label p q =
-      ap₂ (λ (x y : ℕ). cond (eqb m 0) x y) p q ∙ swap (eqb m 0) ∙ ap (λ (b : Bool). cond b (labelFor code is refs e) (targetOf code e)) (sym (losing-is (lostRefs code is refs e) m l))
-    where
-      swap : (b : Bool) → cond b (targetOf code e) (labelFor code is refs e) ≡ cond (not b) (labelFor code is refs e) (targetOf code e)
-      swap true = refl
-      swap false = refl
-
-module _ {s info : List ℕ} {n refs e : ℕ} {x : Next} (h : Numbers s info n refs e x) (m : ℕ) (l : Loses (lostRefs (codeOf s) (infosOf n info) refs e) m) where
-  pub goes-to : (old g : ℕ) → old ≡ targetOf (codeOf s) e → g ≡ cond (eqb m 0) old (x .label) → g ≡ goesTo (codeOf s) (infosOf n info) refs e
-  goes-to old g p q = q ∙ goes-is (codeOf s) (infosOf n info) refs e m l old (x .label) p (h .next .label)
-
-  pub label-fits : Fitting s info n refs → e < 2 * n → (m ≡ 0 → ⊥) → x .label ≤ maxNumber
-  label-fits f b q = omega (arith, h .next .label, f .label e b (some-lost (codeOf s) (infosOf n info) refs e m l q))
-
-  -- room for its block
-  pub room : Fitting s info n refs → e < 2 * n → (m ≡ 0 → ⊥) → (long : ℕ) → recordBytes * blockSize (lostRefs (codeOf s) (infosOf n info) refs e) ≤ long → Room x m long
-  room f b q long w =
-      let added : blockSize (lostRefs (codeOf s) (infosOf n info) refs e) ≡ ones m + 2 = ap blockSize (l .is) ∙ added-is m q (l .small) in
-      record {
-        some = q;
-        small = l .small;
-        label = label-fits f b q;
-        attr = omega (arith, h .next .attr, added, f .attr e b (some-lost (codeOf s) (infosOf n info) refs e m l q));
-        fits = omega (arith, added);
-      }
-
-  pub block-on : (t : ℕ) (d out : List ℕ) → t ≡ targetOf (codeOf s) e → out ≡ placed (destroyBlock (x .attr) (x .label) t (members maxLocals m)) d → out ≡ placed (blockOn (codeOf s) (infosOf n info) refs e) d
-  unfolding blockOn
-  block-on t d out p q =
-      q ∙ ap₂ (λ (a b : ℕ). placed (destroyBlock a b t (members maxLocals m)) d) (h .next .attr) (h .next .label)
-      ∙ ap₂ (λ (y : ℕ) (z : List ℕ). placed (destroyBlock (attrFor (codeOf s) (infosOf n info) refs e) (labelFor (codeOf s) (infosOf n info) refs e) y z) d) p (sym (l .is))
-
-  pub block-none : (d : List ℕ) → m ≡ 0 → d ≡ placed (blockOn (codeOf s) (infosOf n info) refs e) d
-  unfolding blockOn destroyBlock
-  block-none d q =
-      placed-none d ∙ ap (λ (y : List ℕ). placed (destroyBlock (attrFor (codeOf s) (infosOf n info) refs e) (labelFor (codeOf s) (infosOf n info) refs e) (targetOf (codeOf s) e) y) d) (sym (l .is ∙ ap (members maxLocals) q ∙ walk-end maxLocals 0))
+pub aimed-by : (lost : List ℕ) (k : ℕ) (x y : Next) (r : Bytecode) (a b one two : ℕ) → a ≡ setAt lost (2 * k) → b ≡ setAt lost (2 * k + 1) → one ≡ goesAt (members maxLocals a) (r .one) (x .label) → y ≡ past x (members maxLocals a)
+    → two ≡ goesAt (members maxLocals b) (r .two) (y .label) → aimed r one two ≡ aimedAt lost k x r
+unfolding aimedAt
+aimed-by lost k x y r a b one two ea eb eo ey et =
+    ap₂ (aimed r) (eo ∙ ap (λ (m : ℕ). goesAt (members maxLocals m) (r .one) (x .label)) ea)
+    (et ∙ ap₂ (λ (m : ℕ) (z : Next). goesAt (members maxLocals m) (r .two) (z .label)) eb (ey ∙ ap (λ (m : ℕ). past x (members maxLocals m)) ea))
 
 -- the label of edge e, in the instruction of its Branch
 module _ (s : List ℕ) (a : checkSheet s ≡ Accepted) (e : ℕ) (r : Bytecode) (l : e / 2 < countOf s) (q : r ≡ instructionAt s (e / 2)) where
@@ -201,56 +149,46 @@ module _ (s : List ℕ) (a : checkSheet s ≡ Accepted) (e : ℕ) (r : Bytecode)
   unfolding targetOf
   target-else z = sym (ap (λ (b : Bool). cond b (at (codeOf s) (e / 2) .one) (at (codeOf s) (e / 2) .two)) (ne-eqb (e % 2) 0 z) ∙ ap (λ (x : Bytecode). x .two) old-is)
 
--- the numbers behind edge e
-pub numbers-next : {s info : List ℕ} {n refs e : ℕ} {x : Next} → Numbers s info n refs e x → (a : ℕ) (y : Next) → Loses (lostRefs (codeOf s) (infosOf n info) refs e) a → Past x a y → Numbers s info n refs (e + 1) y
-numbers-next {s} {info} {n} {refs} {e} h a y l p = subst (λ (j : ℕ). Numbers s info n refs j y) (sym (add-one e)) (numbers-past h a y l p)
-
--- the numbers at the else edge of offset k
-pub numbers-else : {s info : List ℕ} {n refs : ℕ} {x : Next} (k a : ℕ) (y : Next) → Numbers s info n refs (2 * k) x → Loses (lostRefs (codeOf s) (infosOf n info) refs (2 * k)) a → Past x a y → Numbers s info n refs (2 * k + 1) y
-numbers-else {s} {info} {n} {refs} k a y h l p = subst (λ (e : ℕ). Numbers s info n refs e y) (sym (add-one (2 * k))) (numbers-past h a y l p)
-
 -- ---- what stands for an offset
 
-module _ {s info : List ℕ} {n : ℕ} (h : Known s info n) (refs k : ℕ) (r : Bytecode) (l : k < n) (e : r ≡ instructionAt s k) where
-  is-r : at (codeOf s) k ≡ r
-  is-r = here h k l ∙ sym e
+module _ (code : List Bytecode) (fates lost : List ℕ) (k : ℕ) (x : Next) (r : Bytecode) (is : r ≡ at code k) where
+  pub stands-branch : r .kind ≡ 4 → aimedAt lost k x r ≡ standsAt code fates lost k x
+  unfolding standsAt
+  stands-branch q =
+      ap (aimedAt lost k x) is ∙ sym (ap (λ (b : Bool). cond b (aimedAt lost k x (at code k)) (cond (eqb (getD fates k 0) 2) (into (at code k) (at code (suc k) .dsts)) (at code k))) (eq-eqb (at code k .kind) 4 (ap (λ (y : Bytecode). y .kind) (sym is) ∙ q)))
 
-  pub then-target : r .one ≡ targetOf (codeOf s) (2 * k)
-  then-target = ap (λ (y : Bytecode). y .one) (sym is-r) ∙ sym (edge-target (codeOf s) (infosOf n info) refs k)
+  other : (r .kind ≡ 4 → ⊥) → standsAt code fates lost k x ≡ cond (eqb (getD fates k 0) 2) (into (at code k) (at code (suc k) .dsts)) (at code k)
+  unfolding standsAt
+  other q = ap (λ (b : Bool). cond b (aimedAt lost k x (at code k)) (cond (eqb (getD fates k 0) 2) (into (at code k) (at code (suc k) .dsts)) (at code k))) (ne-eqb (at code k .kind) 4 (λ z. q (ap (λ (y : Bytecode). y .kind) is ∙ z)))
 
-  pub else-target : r .two ≡ targetOf (codeOf s) (2 * k + 1)
-  else-target =
-      ap (λ (y : Bytecode). y .two) (sym is-r) ∙ sym (edge-target-else (codeOf s) (infosOf n info) refs k) ∙ ap (targetOf (codeOf s)) (sym (add-one (2 * k)))
+  pub stands-merged : (a : Bytecode) → getD fates k 0 ≡ 2 → (r .kind ≡ 4 → ⊥) → a ≡ at code (k + 1) → into r (a .dsts) ≡ standsAt code fates lost k x
+  stands-merged a m q g =
+      ap₂ (λ (y z : Bytecode). into y (z .dsts)) is (g ∙ ap (at code) (add-one k)) ∙ sym (other q ∙ ap (λ (b : Bool). cond b (into (at code k) (at code (suc k) .dsts)) (at code k)) (eq-eqb _ 2 m))
 
-  pub stands-branch : (one two : ℕ) → r .kind ≡ 4 → one ≡ goesTo (codeOf s) (infosOf n info) refs (2 * k) → two ≡ goesTo (codeOf s) (infosOf n info) refs (2 * k + 1)
-      → aimed r one two ≡ standsFor (codeOf s) (infosOf n info) refs k
-  stands-branch one two q p g =
-      by-stands (codeOf s) (infosOf n info) refs (λ y. aimed r one two ≡ y) k (λ z. ap₂ (aimed r) p (g ∙ ap (goesTo (codeOf s) (infosOf n info) refs) (add-one (2 * k))) ∙ ap (λ (y : Bytecode). aimed y (goesTo (codeOf s) (infosOf n info) refs (2 * k)) (goesTo (codeOf s) (infosOf n info) refs (suc (2 * k)))) (sym is-r))
-      (λ z. absurd (omega (arith, ap (λ (y : Bytecode). y .kind) is-r, is-merged (codeOf s) (infosOf n info) k z .call))) (λ z m. absurd (z (ap (λ (y : Bytecode). y .kind) is-r ∙ q)))
-
-  pub stands-merged : (a : Bytecode) → isMerged (codeOf s) (infosOf n info) k ≡ true → (r .kind ≡ 4 → ⊥) → k + 1 < n → a ≡ instructionAt s (k + 1) → into r (a .dsts) ≡ standsFor (codeOf s) (infosOf n info) refs k
-  stands-merged a m q b g =
-      by-stands (codeOf s) (infosOf n info) refs (λ y. into r (a .dsts) ≡ y) k (λ z. absurd (q (ap (λ (y : Bytecode). y .kind) (sym is-r) ∙ z)))
-      (λ z. ap₂ (λ (y w : Bytecode). into y (w .dsts)) (sym is-r) (g ∙ sym (here h (k + 1) b) ∙ ap (at (codeOf s)) (add-one k))) (λ z w. absurd (true≢false (sym m ∙ w)))
-
-  pub stands-plain : isMerged (codeOf s) (infosOf n info) k ≡ false → (r .kind ≡ 4 → ⊥) → r ≡ standsFor (codeOf s) (infosOf n info) refs k
-  stands-plain m q =
-      by-stands (codeOf s) (infosOf n info) refs (λ y. r ≡ y) k (λ z. absurd (q (ap (λ (y : Bytecode). y .kind) (sym is-r) ∙ z))) (λ z. absurd (true≢false (sym z ∙ m))) (λ z w. sym is-r)
-
--- there is code behind a merged Call
-pub merged-next : {s info : List ℕ} {n : ℕ} (h : Known s info n) (k : ℕ) → isMerged (codeOf s) (infosOf n info) k ≡ true → k + 1 < n
-merged-next {s} {info} {n} h k e = omega (arith, size h, merged-inside (codeOf s) (infosOf n info) k (is-merged (codeOf s) (infosOf n info) k e))
+  pub stands-plain : (getD fates k 0 ≡ 2 → ⊥) → (r .kind ≡ 4 → ⊥) → r ≡ standsAt code fates lost k x
+  stands-plain m q = is ∙ sym (other q ∙ ap (λ (b : Bool). cond b (into (at code k) (at code (suc k) .dsts)) (at code k)) (ne-eqb _ 2 m))
 
 -- ---- the kept instructions
 
-module _ (code : List Bytecode) (is : List LiveVarInfo) (refs : ℕ) where
-  pub kept-out : (k : ℕ) → isDropped code is k ≡ true → keptCode code is refs k ≡ []
-  unfolding keptCode
-  kept-out k e = ap (λ (b : Bool). cond b [] (standsFor code is refs k ∷ [])) e
+module _ (code : List Bytecode) (fates lost : List ℕ) (k : ℕ) (x : Next) where
+  pub kept-out : getD fates k 0 ≡ 1 → keptAt code fates lost k x ≡ []
+  unfolding keptAt
+  kept-out e = ap (λ (b : Bool). cond b [] (standsAt code fates lost k x ∷ [])) (eq-eqb _ 1 e)
 
-  pub kept-in : (k : ℕ) (r : Bytecode) → isDropped code is k ≡ false → r ≡ standsFor code is refs k → keptCode code is refs k ≡ r ∷ []
-  unfolding keptCode
-  kept-in k r e q = ap₂ (λ (b : Bool) (x : Bytecode). cond b [] (x ∷ [])) e (sym q)
+  pub kept-in : (r : Bytecode) → (getD fates k 0 ≡ 1 → ⊥) → r ≡ standsAt code fates lost k x → keptAt code fates lost k x ≡ r ∷ []
+  unfolding keptAt
+  kept-in r e q = ap₂ (λ (b : Bool) (y : Bytecode). cond b [] (y ∷ [])) (ne-eqb _ 1 e) (sym q)
+
+-- ---- the block of an edge by the table
+
+module _ (code : List Bytecode) (lost : List ℕ) (e m : ℕ) (x : Next) (l : m ≡ setAt lost e) where
+  pub block-on : (t : ℕ) (d out : List ℕ) → t ≡ targetOf code e → out ≡ placed (destroyBlock (x .attr) (x .label) t (members maxLocals m)) d → out ≡ placed (addedAt code lost e x) d
+  unfolding addedAt
+  block-on t d out p q = q ∙ ap₂ (λ (y z : ℕ). placed (destroyBlock (x .attr) (x .label) y (members maxLocals z)) d) p l
+
+  pub block-none : (d : List ℕ) → m ≡ 0 → d ≡ placed (addedAt code lost e x) d
+  unfolding addedAt destroyBlock
+  block-none d q = placed-none d ∙ ap (λ (y : List ℕ). placed (destroyBlock (x .attr) (x .label) (targetOf code e) y) d) (sym (ap (members maxLocals) (sym l) ∙ none-lost m q))
 
 -- ---- all of them, and all blocks: piece k comes behind the pieces before it
 
@@ -278,58 +216,28 @@ pieces-length f k m c e q =
 pub pieces-end : (f : ℕ → List Bytecode) (k n m : ℕ) (d out : List ℕ) → k ≡ n → m ≡ length (joins k f) → out ≡ placed (joins k f) d → (m ≡ length (joins n f)) × (out ≡ placed (joins n f) d)
 pieces-end f k n m d out e p q = (p ∙ ap (λ (x : ℕ). length (joins x f)) e, q ∙ ap (λ (x : ℕ). placed (joins x f) d) e)
 
-module _ (code : List Bytecode) (is : List LiveVarInfo) (refs : ℕ) where
-  blocks-length : (e : ℕ) → length (joins e (blockOn code is refs)) ≡ total e (λ j. blockSize (lostRefs code is refs j))
-  unfolding blockOn
-  blocks-length e =
-      joins-length e (blockOn code is refs) ∙ total-same e _ _ (λ j. block-size (attrFor code is refs j) (labelFor code is refs j) (targetOf code j) (lostRefs code is refs j))
+-- one kept instruction more, and one block more, by the numbers x that have come
+pub kept-pieces : (code : List Bytecode) (fates lost : List ℕ) (first x : Next) (k a : ℕ) (d out new : List ℕ) → x ≡ numbersAt first lost (2 * k) → out ≡ placed (joins k (keptBy code fates lost first)) d
+    → a ≡ recordBytes * length (joins k (keptBy code fates lost first)) → new ≡ placed (keptAt code fates lost k x) (take (length out - a) (drop a out))
+    → take a out ++ (new ++ drop (length out - a) (drop a out)) ≡ placed (joins (k + 1) (keptBy code fates lost first)) d
+kept-pieces code fates lost first x k a d out new ex e q w =
+    pieces-more (keptBy code fates lost first) k a d out new e q (w ∙ ap (λ (y : Next). placed (keptAt code fates lost k y) (take (length out - a) (drop a out))) ex)
 
-  attr-is : (e : ℕ) → attrFor code is refs e ≡ nextFreeAttr code + length (joins e (blockOn code is refs))
-  unfolding attrFor
-  attr-is e = ap (λ (x : ℕ). nextFreeAttr code + x) (sym (blocks-length e))
+pub kept-long : (code : List Bytecode) (fates lost : List ℕ) (first x : Next) (k m c : ℕ) → x ≡ numbersAt first lost (2 * k) → m ≡ length (joins k (keptBy code fates lost first)) → c ≡ length (keptAt code fates lost k x)
+    → m + c ≡ length (joins (k + 1) (keptBy code fates lost first))
+kept-long code fates lost first x k m c ex e q = pieces-length (keptBy code fates lost first) k m c e (q ∙ ap (λ (y : Next). length (keptAt code fates lost k y)) ex)
 
-  -- the block of an edge ends before all blocks do
-  block-inside : (e : ℕ) → e < 2 * length code → length (joins e (blockOn code is refs)) + blockSize (lostRefs code is refs e) ≤ length (addedCode code is refs)
-  unfolding addedCode
-  block-inside e h = omega (arith, blocks-length e, blocks-length (2 * length code), total-le (2 * length code) e (λ j. blockSize (lostRefs code is refs j)) h)
+pub added-pieces : (code : List Bytecode) (lost : List ℕ) (first x : Next) (e a : ℕ) (d out new : List ℕ) → x ≡ numbersAt first lost e → out ≡ placed (joins e (addedBy code lost first)) d
+    → a ≡ recordBytes * length (joins e (addedBy code lost first)) → new ≡ placed (addedAt code lost e x) (take (length out - a) (drop a out))
+    → take a out ++ (new ++ drop (length out - a) (drop a out)) ≡ placed (joins (e + 1) (addedBy code lost first)) d
+added-pieces code lost first x e a d out new ex i q w =
+    pieces-more (addedBy code lost first) e a d out new i q (w ∙ ap (λ (y : Next). placed (addedAt code lost e y) (take (length out - a) (drop a out))) ex)
 
-  parts : length (transformCode code is refs) ≡ length (joins (length code) (keptCode code is refs)) + length (addedCode code is refs)
-  unfolding transformCode
-  parts = length-append (joins (length code) (keptCode code is refs)) (addedCode code is refs)
-
-  new-is : joins (length code) (keptCode code is refs) ++ addedCode code is refs ≡ transformCode code is refs
-  unfolding transformCode
-  new-is = refl
-
-  pub added-are : joins (2 * length code) (blockOn code is refs) ≡ addedCode code is refs
-  unfolding addedCode
-  added-are = refl
-
-module _ {s info : List ℕ} {n : ℕ} (h : Known s info n) (refs : ℕ) where
-  -- how many instructions of blocks stand before edge e
-  pub written-is : {e : ℕ} {first x : Next} → Numbers s info n refs 0 first → Numbers s info n refs e x → (first .attr ≤ x .attr) × (x .attr - first .attr ≡ length (joins e (blockOn (codeOf s) (infosOf n info) refs)))
-  written-is {e} {first} {x} a b =
-      let start : first .attr ≡ nextFreeAttr (codeOf s) = a .next .attr ∙ attr-first (codeOf s) (infosOf n info) refs in
-      let now : x .attr ≡ nextFreeAttr (codeOf s) + length (joins e (blockOn (codeOf s) (infosOf n info) refs)) = b .next .attr ∙ attr-is (codeOf s) (infosOf n info) refs e in
-      (omega arith, omega arith)
-
-  pub edge-room : (e : ℕ) → e < 2 * n → length (joins e (blockOn (codeOf s) (infosOf n info) refs)) + blockSize (lostRefs (codeOf s) (infosOf n info) refs e) ≤ length (addedCode (codeOf s) (infosOf n info) refs)
-  edge-room e l = block-inside (codeOf s) (infosOf n info) refs e (omega (arith, size h))
-
-  -- the end
-  pub all-added : (e : ℕ) (d out : List ℕ) → e ≡ 2 * n → out ≡ placed (joins e (blockOn (codeOf s) (infosOf n info) refs)) d → out ≡ placed (addedCode (codeOf s) (infosOf n info) refs) d
-  all-added e d out q p =
-      p ∙ ap (λ (x : ℕ). placed (joins x (blockOn (codeOf s) (infosOf n info) refs)) d) (q ∙ ap (λ (x : ℕ). 2 * x) (sym (size h)))
-      ∙ ap (λ (x : List Bytecode). placed x d) (added-are (codeOf s) (infosOf n info) refs)
-
-  pub code-parts : length (transformCode (codeOf s) (infosOf n info) refs) ≡ length (joins n (keptCode (codeOf s) (infosOf n info) refs)) + length (addedCode (codeOf s) (infosOf n info) refs)
-  code-parts = parts (codeOf s) (infosOf n info) refs ∙ ap (λ (x : ℕ). length (joins x (keptCode (codeOf s) (infosOf n info) refs)) + length (addedCode (codeOf s) (infosOf n info) refs)) (size h)
-
-  pub all-written : (a : ℕ) (d out new : List ℕ) → out ≡ placed (joins n (keptCode (codeOf s) (infosOf n info) refs)) d → a ≡ recordBytes * length (joins n (keptCode (codeOf s) (infosOf n info) refs))
-      → new ≡ placed (addedCode (codeOf s) (infosOf n info) refs) (take (length out - a) (drop a out)) → take a out ++ (new ++ drop (length out - a) (drop a out)) ≡ placed (transformCode (codeOf s) (infosOf n info) refs) d
-  all-written a d out new p q w =
-      tail-put (addedCode (codeOf s) (infosOf n info) refs) out new a w
-      ∙ ap (λ (x : List ℕ). take a x ++ placed (addedCode (codeOf s) (infosOf n info) refs) (drop a x)) p
-      ∙ placed-more (joins n (keptCode (codeOf s) (infosOf n info) refs)) (addedCode (codeOf s) (infosOf n info) refs) d a q
-      ∙ ap (λ (x : ℕ). placed (joins x (keptCode (codeOf s) (infosOf n info) refs) ++ addedCode (codeOf s) (infosOf n info) refs) d) (sym (size h))
-      ∙ ap (λ (x : List Bytecode). placed x d) (new-is (codeOf s) (infosOf n info) refs)
+-- the kept instructions, and all blocks behind them
+pub all-written : (code : List Bytecode) (fates lost : List ℕ) (n : ℕ) (first : Next) (a : ℕ) (d out new : List ℕ) → out ≡ placed (joins n (keptBy code fates lost first)) d
+    → a ≡ recordBytes * length (joins n (keptBy code fates lost first)) → new ≡ placed (joins (2 * n) (addedBy code lost first)) (take (length out - a) (drop a out))
+    → take a out ++ (new ++ drop (length out - a) (drop a out)) ≡ placed (codeBy code fates lost n first) d
+all-written code fates lost n first a d out new p q w =
+    tail-put (joins (2 * n) (addedBy code lost first)) out new a w
+    ∙ ap (λ (x : List ℕ). take a x ++ placed (joins (2 * n) (addedBy code lost first)) (drop a x)) p
+    ∙ placed-more (joins n (keptBy code fates lost first)) (joins (2 * n) (addedBy code lost first)) d a q

@@ -4,11 +4,11 @@ use Prim.Native.Nat.{ℕ, zero, suc, _+_, _*_, _/_, _%_, max}
 use mathlib.Core.Bool.{Bool, true, false, cond, not, _||_, _&&_}
 use mathlib.Core.List.{List, [], _∷_, _++_, map}
 use lib.Bits.{bitAnd}
-use lib.Dec.{eqb, ltb}
+use lib.Dec.{eqb, leb, ltb}
 use lib.ListN.{getD, length}
 use Rattle.base.specs.Sizes.{maxLocals, maxInstructions, maxBytes, maxNumber}
 use Rattle.base.specs.Lists.{keep, count, total, joins, gather}
-use Rattle.base.specs.Refusals.{Reply, No, Done, reply}
+use Rattle.base.specs.Refusals.{check, whole, _then_, lends, Reply, Done, reply}
 use Rattle.dataflow_domains.specs.Mask.{holds, minus}
 use Rattle.stackless_bytecode.specs.declared.Bytecode.{Bytecode}
 use Rattle.stackless_bytecode.specs.Kinds.{Assign, Call, Load, Branch, Jump, Label, Destroy, at, labelOf}
@@ -174,28 +174,27 @@ module _ (code : List Bytecode) (info : List LiveVarInfo) (refs : ℕ) where
 
 -- ---- the call rewrite
 
--- what rewriting gives: the sheet, or refusal 10 or 11
-pub data Written : Type 0 where
-  Sheet : List ℕ → Written
-  NoNumber : Written
-  TooLong : Written
+-- the live sets of a sheet, the code that rewriting gives it, and the sheet of that code under the old heading
+abbrev pub sheetInfo : List ℕ → List LiveVarInfo
+sheetInfo s = analyze (codeOf s) (localsOf s) .info
 
--- 10: there are new blocks, and the last new label or attribute id is above 65,535; 11: more instructions than a sheet holds
-unfoldable pub rewritten : List ℕ → Written
-rewritten s =
-    let code = codeOf s in
-    let info = analyze code (localsOf s) .info in
-    let refs = refsOf s in
-    let new = transformCode code info refs in
+abbrev pub newCode : List ℕ → List Bytecode
+newCode s = transformCode (codeOf s) (sheetInfo s) (refsOf s)
+
+abbrev pub newSheet : List ℕ → List ℕ
+newSheet s = sheetOf (headingRest s) (newCode s)
+
+-- no block is added, or the numbers behind those of all blocks are at most one above the highest
+unfoldable pub numbersFit : List Bytecode → List LiveVarInfo → ℕ → Bool
+numbersFit code info refs =
     let edges = 2 * length code in
-    cond (ltb 0 (length (addedCode code info refs)) && (ltb (suc maxNumber) (labelFor code info refs edges) || ltb (suc maxNumber) (attrFor code info refs edges))) NoNumber
-    (cond (ltb maxInstructions (length new)) TooLong (Sheet (sheetOf (headingRest s) new)))
+    eqb (length (addedCode code info refs)) 0 || (leb (labelFor code info refs edges) (suc maxNumber) && leb (attrFor code info refs edges) (suc maxNumber))
 
-unfoldable pub writtenReply : Written → Reply
-writtenReply (Written.Sheet t) = Done (length t) t
-writtenReply Written.NoNumber = No 10 0
-writtenReply Written.TooLong = No 11 0
-
--- the length and the sheet, where so many bytes are lent
+-- the length of the new sheet and the sheet, where so many bytes are lent; 10: a new number is too high; 11: more instructions than a sheet holds
 unfoldable pub rewriteReply : List ℕ → ℕ → Reply
-rewriteReply s lent = reply (checkSheet s) lent maxBytes (writtenReply (rewritten s))
+rewriteReply s lent =
+    reply (checkSheet s
+    then lends lent maxBytes
+    then check 10 (whole (numbersFit (codeOf s) (sheetInfo s) (refsOf s)))
+    then check 11 (whole (leb (length (newCode s)) maxInstructions)))
+    (Done (length (newSheet s)) (newSheet s))

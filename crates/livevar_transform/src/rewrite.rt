@@ -1,143 +1,133 @@
 // The call rewrite: refusals 10 and 11 before a byte is written, then the new sheet. Assumes nothing.
 ghost use mathlib.Core.Path.{_≡_};
-ghost use mathlib.Core.List.{_++_};
 ghost use Prim.Native.Nat.{_≤_};
-ghost use lib.ListN.{length, take, drop};
-ghost use Rattle.base.specs.Sizes.{blockBytes, maxBytes};
-ghost use Rattle.base.specs.Refusals.{resultOf, left};
-ghost use Rattle.dataflow_domains.specs.Sets.{mask};
-ghost use Rattle.sheet.specs.Layout.{headingRest, refsOf, codeOf, sheetOf};
-ghost use Rattle.stackless_control_flow_graph.specs.Arrays.{Given};
-ghost use Rattle.livevar_analysis.specs.Output.{infosOf};
-ghost use Rattle.livevar_transform.specs.Rewrite.{transformCode, rewriteReply};
-ghost use Rattle.livevar_transform.specs.RewriteAccepted.{Again};
-ghost use Rattle.livevar_transform.specs.TransformLaws.{Ready, Numbers};
-ghost use Rattle.livevar_transform.specs.NewCodeLaws.{Fitting};
-ghost use Rattle.livevar_transform.specs.RewriteWork.{Asked, Answers, Blank, spent, rewriteResult};
-use crate::transform::Next;
-use crate::transform::count;
-use crate::transform::first_numbers;
-use crate::transform::transform_code;
+ghost use lib.ListN.{length, take};
+ghost use Rattle.base.specs.Sizes.{maxBytes, maxInstructions};
+ghost use Rattle.base.specs.Refusals.{resultOf, answerOf, outputAfter};
+ghost use Rattle.sheet.specs.Layout.{headingRest, codeOf, sheetOf};
+ghost use Rattle.sheet_writer.specs.Written.{SheetWritten};
+ghost use Rattle.stackless_control_flow_graph.specs.Arrays.{CheckedSheet};
+ghost use Rattle.livevar_transform.specs.Rewrite.{rewriteReply};
+ghost use Rattle.livevar_transform.specs.RewriteAccepted.{AcceptedRewriting};
+ghost use Rattle.livevar_transform.specs.Plan.{PlanRoom, Tables, Fitting, LowNext, codeBy};
+ghost use Rattle.livevar_transform.specs.RewriteWork.{Asked, Answers, Blank, fitBetween};
+use crate::plan::Next;
+use crate::plan::count;
+use crate::plan::fill_plan;
+use crate::plan::first_numbers;
+use crate::plan::set_in;
+use crate::write::transform_code;
+use base::Answer;
+use base::Checked;
+use base::LIVE_BYTES;
 use base::MAX_BLOCKS;
 use base::MAX_BYTES;
 use base::MAX_INSTRUCTIONS;
+use base::MAX_NUMBER;
+use base::REFS_AT;
 use base::Refusal;
-use base::SET_BYTES;
-use dataflow_domains::LiveVarState;
+use base::SET_WORDS;
+use base::SLOTS;
 use livevar_analysis::analysis::analyze;
-use sheet::Checked;
-use sheet::check::check_into;
 use sheet::reader::u16_at;
+use sheet_checks::check::check_into;
 use sheet_writer::whole::BODY_BYTES;
 use sheet_writer::whole::write_sheet;
-
-// The highest label and attribute id.
-const MAX_NUMBER: u32 = 65535;
-
-// Where the heading's reference mask stands, and where it ends.
-const REFS_AT: usize = 16;
-
-const REFS_END: usize = REFS_AT + SET_BYTES;
-
-// What rewriting answers: the length of the new sheet, or why it was refused.
-pub enum Rewritten {
-    Length(u32),
-    Refused(Refusal),
-}
 
 // The records of the longest sheet.
 const FLAT_BYTES: usize = BODY_BYTES * (MAX_BLOCKS - 1);
 
-// The sets of the most instructions.
-const LIVE_BYTES: usize = 2 * SET_BYTES * MAX_INSTRUCTIONS;
+// A set for each edge.
+const LOST_WORDS: usize = SET_WORDS * SLOTS;
 
-// Two slots an instruction.
-const SLOTS: usize = 2 * MAX_INSTRUCTIONS;
-
-// The set of references of a sheet.
-fn refs_of(s: &[u8]) -> LiveVarState
-    requires { ⌜ blockBytes ≤ length (now s) ⌝ }
-    ensures { λ r. ⌜ mask r ≡ refsOf (now (s .entry)) ⌝ }
-{
-    LiveVarState::load_bytes(&s[REFS_AT..REFS_END])
-}
-
-// 10: there are new blocks, and a number behind those of all blocks is above one past the highest.
-fn numbers_spent(first: Next, last: Next) -> bool
-    ensures { λ r. ⌜ r ≡ spent first last ⌝ }
+// 10: no number was used up, or those behind are at most one above the highest.
+fn numbers_fit(first: Next, last: Next) -> bool
+    ensures { λ r. ⌜ r ≡ fitBetween first last ⌝ }
 {
     let top = MAX_NUMBER + 1;
-    (first.attr < last.attr) & ((top < last.label) | (top < last.attr))
+    (first.attr == last.attr) | ((last.label <= top) & (last.attr <= top))
 }
 
-// The new code, of m instructions, and the new sheet; its length.
+// The new code by its plan, of m instructions, and the new sheet; its length.
 fn write_new(
     s: &[u8],
-    targets: &[u16],
-    info: &[u8],
+    fates: &[u8],
+    lost: &[u64],
     n: usize,
-    refs: LiveVarState,
     first: Next,
     m: usize,
     flat: &mut [u8],
     out: &mut [u8],
 ) -> u32
-    requires { ⌜ Ready (now s) (now targets) (now info) n × Numbers (now s) (now info) n (mask refs) 0 first × Fitting (now s) (now info) n (mask refs) × (m ≡ length (transformCode (codeOf (now s)) (infosOf n (now info)) (mask refs))) × Blank (now flat) × (maxBytes ≤ length (now out)) ⌝ }
-    ensures { λ r. ⌜ (r ≡ length (sheetOf (headingRest (now (s .entry))) (transformCode (codeOf (now (s .entry))) (infosOf n (now (info .entry))) (mask refs)))) × (now (out .exit) ≡ sheetOf (headingRest (now (s .entry))) (transformCode (codeOf (now (s .entry))) (infosOf n (now (info .entry))) (mask refs)) ++ drop (length (sheetOf (headingRest (now (s .entry))) (transformCode (codeOf (now (s .entry))) (infosOf n (now (info .entry))) (mask refs)))) (now (out .entry))) ⌝ }
+    requires { ⌜ Tables (now s) (now fates) (now lost) n × Fitting (now lost) n first × LowNext first × (m ≡ length (codeBy (codeOf (now s)) (now fates) (now lost) n first)) × (m ≤ maxInstructions) × Blank (now flat) × (maxBytes ≤ length (now out)) ⌝ }
+    ensures { λ r. ⌜ SheetWritten (sheetOf (headingRest (now (s .entry))) (codeBy (codeOf (now (s .entry))) (now (fates .entry)) (now (lost .entry)) n first)) (now (out .entry)) r (now (out .exit)) ⌝ }
 {
-    transform_code(s, targets, info, n, refs, first, flat);
+    transform_code(s, fates, lost, n, first, flat);
     write_sheet(s, m, flat, out)
 }
 
-// Rewriting of an accepted sheet of n instructions, with the offsets of its labels in `targets` and the bytes that live wrote in `info`; `flat` is of zeros.
-pub fn rewrite_sheet(
+// Rewriting by a plan that is filled here; `flat` is of zeros.
+fn plan_and_write(
     s: &[u8],
+    n: usize,
     targets: &[u16],
     info: &[u8],
-    n: usize,
+    fates: &mut [u8],
+    lost: &mut [u64],
     flat: &mut [u8],
     out: &mut [u8],
-) -> Rewritten
-    requires { ⌜ Asked (now s) (now targets) (now info) n × Blank (now flat) × (maxBytes ≤ length (now out)) ⌝ }
+) -> Answer
+    requires { ⌜ Asked (now s) (now targets) (now info) n × PlanRoom (now fates) (now lost) n × Blank (now flat) × (maxBytes ≤ length (now out)) ⌝ }
     ensures { λ r. ⌜ Answers (now (s .entry)) (now (out .entry)) r (now (out .exit)) ⌝ }
 {
-    let refs = refs_of(s);
+    let refs = set_in(s, REFS_AT);
+    fill_plan(s, targets, info, n, refs, fates, lost);
     let first = first_numbers(s, n);
-    let counts = count(s, targets, info, n, refs, first);
+    let counts = count(fates, lost, n, first);
     let last = counts.next;
-    if numbers_spent(first, last) {
-        return Rewritten::Refused(Refusal::NumberTooHigh);
+    if !numbers_fit(first, last) {
+        return Answer::Refused(Refusal::NumberTooHigh);
     }
     let m = counts.kept + (last.attr - first.attr) as usize;
     if MAX_INSTRUCTIONS < m {
-        return Rewritten::Refused(Refusal::CodeTooLong);
+        return Answer::Refused(Refusal::CodeTooLong);
     }
-    Rewritten::Length(write_new(s, targets, info, n, refs, first, m, flat, out))
+    Answer::Value(write_new(s, fates, lost, n, first, m, flat, out))
+}
+
+// Rewriting of an accepted sheet of n instructions, with the offsets of its labels in `targets` and the bytes that live wrote in `info`.
+pub fn rewrite_sheet(s: &[u8], n: usize, targets: &[u16], info: &[u8], out: &mut [u8]) -> Answer
+    requires { ⌜ Asked (now s) (now targets) (now info) n × (maxBytes ≤ length (now out)) ⌝ }
+    ensures { λ r. ⌜ Answers (now (s .entry)) (now (out .entry)) r (now (out .exit)) ⌝ }
+{
+    let mut fates = [0u8; MAX_INSTRUCTIONS];
+    let mut lost = [0u64; LOST_WORDS];
+    let mut flat = [0u8; FLAT_BYTES];
+    plan_and_write(s, n, targets, info, &mut fates, &mut lost, &mut flat, out)
 }
 
 // Rewriting of an accepted sheet of n instructions: its live sets, then the new code.
-fn analyze_and_transform(s: &[u8], n: usize, targets: &[u16], out: &mut [u8]) -> Rewritten
-    requires { ⌜ Given (now s) n (now targets) × (maxBytes ≤ length (now out)) ⌝ }
+fn analyze_and_transform(s: &[u8], n: usize, targets: &[u16], out: &mut [u8]) -> Answer
+    requires { ⌜ CheckedSheet (now s) n (now targets) × (maxBytes ≤ length (now out)) ⌝ }
     ensures { λ r. ⌜ Answers (now (s .entry)) (now (out .entry)) r (now (out .exit)) ⌝ }
 {
     let mut info = [0u8; LIVE_BYTES];
-    let mut flat = [0u8; FLAT_BYTES];
     analyze(s, n, targets, &mut info);
-    rewrite_sheet(s, targets, &info, n, &mut flat, out)
+    rewrite_sheet(s, n, targets, &info, out)
 }
 
 // The rewrite call: the new sheet at the front of `out`, and its length in bytes. Its last clause: the new sheet is accepted, and keeps the heading's other fields.
-pub fn rewrite(sheet: &[u8], out: &mut [u8]) -> Rewritten
-    ensures result { λ r. ⌜ rewriteResult r ≡ resultOf (rewriteReply (now (sheet .entry)) (length (now (out .entry)))) ⌝ }
-    ensures written { λ _. ⌜ now (out .exit) ≡ left (rewriteReply (now (sheet .entry)) (length (now (out .entry)))) (now (out .entry)) ⌝ }
-    ensures again { λ r. ⌜ (rewriteResult r .number ≡ 0 → Again (now (sheet .entry)) (take (rewriteResult r .value) (now (out .exit)))) ⌝ }
+pub fn rewrite(sheet: &[u8], out: &mut [u8]) -> Answer
+    ensures result { λ r. ⌜ answerOf r ≡ resultOf (rewriteReply (now (sheet .entry)) (length (now (out .entry)))) ⌝ }
+    ensures written { λ _. ⌜ now (out .exit) ≡ outputAfter (rewriteReply (now (sheet .entry)) (length (now (out .entry)))) (now (out .entry)) ⌝ }
+    ensures accepted { λ r. ⌜ (answerOf r .number ≡ 0 → AcceptedRewriting (now (sheet .entry)) (take (answerOf r .value) (now (out .exit)))) ⌝ }
 {
     let mut targets = [0u16; SLOTS];
     match check_into(sheet, &mut targets) {
-        Checked::Refused(f) => Rewritten::Refused(f),
+        Checked::Refused(f) => Answer::Refused(f),
         Checked::Accepted => {
             if out.len() < MAX_BYTES {
-                return Rewritten::Refused(Refusal::OutputShort);
+                return Answer::Refused(Refusal::OutputShort);
             }
             let n = u16_at(sheet, 4) as usize;
             analyze_and_transform(sheet, n, &targets, out)

@@ -10,8 +10,8 @@ use Rattle.dataflow_domains.specs.Members.{members}
 use Rattle.stackless_bytecode.specs.declared.Bytecode.{Bytecode}
 use Rattle.stackless_bytecode.specs.Kinds.{Assign, Call, Load, Branch, Jump, Label, Prop, at, dstsOf, srcsOf}
 use Rattle.sheet.specs.Layout.{localsOf, userLocalsOf, parametersOf, refsOf, codeOf}
-use Rattle.listing.specs.Lines.{decimal}
-use Rattle.pages.specs.Words.{ascii, word, said, marked, listed}
+use Rattle.listing.specs.Words.{ascii, decimal, said}
+use Rattle.pages.specs.Words.{word, marked, listed}
 
 -- ---- names, in the order of their numbers
 

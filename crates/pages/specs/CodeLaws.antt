@@ -3,30 +3,30 @@ use mathlib.Core.Path.{_≡_, refl, sym, ap, _∙_}
 use mathlib.Core.Logic.{_≢_}
 use mathlib.Core.Bool.{Bool, true, false, cond}
 use mathlib.Core.List.{List, [], _∷_, _++_, append-nil}
-use Prim.Native.Nat.{ℕ, _+_, _<_}
+use Prim.Native.Nat.{ℕ, _+_, _≤_, _<_}
 use native.Mathlib.Nat.{zero-add}
 use native.Mathlib.Numerals.{add-one}
 use native.Mathlib.Omega.{arith}
 use borrow.Author.Tests.{eq-eqb, ne-eqb}
 use lib.ListN.{length, take}
-use Rattle.base.specs.Sizes.{setBytes, maxLocals}
+use Rattle.base.specs.Sizes.{setBytes, blockBytes, refsAt, maxLocals}
 use Rattle.base.specs.Bytes.{number, part, u16At}
 use Rattle.base.specs.Lists.{keep, gather, joins}
 use Rattle.base.specs.Refusals.{Accepted}
 use Rattle.base.specs.ListLaws.{by-test}
 use Rattle.base.specs.GrowLaws.{keep-snoc}
 use Rattle.dataflow_domains.specs.Mask.{holds}
-use Rattle.dataflow_domains.specs.Members.{members}
 use Rattle.stackless_bytecode.specs.declared.Bytecode.{Bytecode}
 use Rattle.stackless_bytecode.specs.Kinds.{at, dstsOf, srcsOf}
 use Rattle.sheet.specs.Layout.{localsOf, userLocalsOf, parametersOf, refsOf, instructionAt, codeOf}
 use Rattle.sheet.specs.Checks.{checkSheet}
-use Rattle.sheet.specs.Valid.{accepted-valid}
-use Rattle.stackless_control_flow_graph.specs.GivenLaws.{accepted-at}
-use Rattle.listing.specs.Lines.{decimal}
-use Rattle.pages.specs.Words.{ascii, word, said, marked, listed}
+use Rattle.sheet.specs.ValidLaws.{accepted-valid}
+use Rattle.stackless_control_flow_graph.specs.CheckedSheetLaws.{accepted-at}
+use Rattle.listing.specs.Words.{ascii, decimal, said}
+use Rattle.pages.specs.Words.{word, marked, listed}
 use Rattle.pages.specs.WordLaws.{listed-snoc}
 use Rattle.pages.specs.Code.{verbs, assigns, operations, constants, props, names, destinations, branchLabels, labels, sources, aborting, does, takes, codeLine, localsIn, counts, heading, codeText}
+use Rattle.pages.specs.Parts.{localShown, localsBelow, codeLines}
 
 -- ---- names
 
@@ -70,9 +70,6 @@ labels-none r a b c = rw (ne-eqb (r .kind) 4 a, ne-eqb (r .kind) 5 b, ne-eqb (r 
 
 -- ---- a local where it is in the set
 
-unfoldable pub localShown : Bool → ℕ → List ℕ
-localShown b x = cond b (said (ascii " t") x) []
-
 pub local-in : (b : Bool) (x : ℕ) → b ≡ true → said (ascii " t") x ≡ localShown b x
 unfolding localShown
 local-in b x e = rw e
@@ -82,9 +79,6 @@ unfolding localShown
 local-out b x e = rw e
 
 -- ---- the locals of a set below i
-
-unfoldable pub localsBelow : ℕ → ℕ → List ℕ
-localsBelow i m = listed (ascii " t") [] (members i m)
 
 pub below-none : (m : ℕ) → localsBelow 0 m ≡ []
 unfolding localsBelow listed gather keep
@@ -151,15 +145,11 @@ pub counts-is : (s : List ℕ) → said (ascii "locals ") (u16At s 6) ++ said (a
 unfolding counts localsOf userLocalsOf parametersOf
 counts-is s = refl
 
-pub heading-is : (s : List ℕ) → counts s ++ localsIn (number (part s 16 setBytes)) ++ ascii "\n" ≡ heading s
+pub heading-is : (s : List ℕ) → counts s ++ localsIn (number (part s refsAt setBytes)) ++ ascii "\n" ≡ heading s
 unfolding heading refsOf
 heading-is s = refl
 
 -- ---- the lines
-
--- the first k lines
-unfoldable pub codeLines : List ℕ → ℕ → List ℕ
-codeLines s k = joins k (λ k. codeLine k (at (codeOf s) k))
 
 pub lines-none : (s : List ℕ) → [] ≡ codeLines s 0
 unfolding codeLines joins
@@ -176,5 +166,5 @@ unfolding codeLines codeText
 lines-all s k e = ap (λ (n : ℕ). heading s ++ joins n (λ k. codeLine k (at (codeOf s) k))) e
 
 -- the heading of an accepted sheet is there
-pub heading-there : (s : List ℕ) → checkSheet s ≡ Accepted → 511 < length s
+pub heading-there : (s : List ℕ) → checkSheet s ≡ Accepted → blockBytes ≤ length s
 heading-there s e = omega (arith, accepted-valid s e .size)

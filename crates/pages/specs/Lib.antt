@@ -1,12 +1,14 @@
 -- What the public contracts and theorems say.
 pub mod Words
 pub mod Code
-pub mod Page
 pub mod Size
+pub mod Page
 -- What the inner contracts say.
-pub mod Output
+pub mod Parts
 -- Laws.
 pub mod WordLaws
 pub mod CodeLaws
+pub mod SectionLaws
 pub mod PageLaws
-pub mod SizeLaws
+pub mod LineSizeLaws
+pub mod PageSizeLaws

@@ -1,19 +1,21 @@
--- The page of a sheet: its code, the blocks and where they lead, the live sets, and the rewritten code. Assumes nothing.
+-- The page of a sheet: its code, the blocks and where they lead, the live sets, and the rewritten code; and what the call replies. Assumes nothing.
 use Prim.Native.Nat.{ℕ, _*_}
-use mathlib.Core.List.{List, _∷_, _++_}
+use mathlib.Core.List.{List, _++_}
 use lib.ListN.{getD, length}
 use Rattle.base.specs.Lists.{joins}
 use Rattle.base.specs.Bytes.{part}
-use Rattle.base.specs.Refusals.{Answer, Accepted, Refused}
+use Rattle.base.specs.Sizes.{rowNumbers, maxBytes}
+use Rattle.base.specs.Refusals.{Verdict, Accepted, Refused, lends, Reply, No, Done, reply}
 use Rattle.sheet.specs.Layout.{localsOf, codeOf}
 use Rattle.sheet.specs.Checks.{checkSheet}
 use Rattle.stackless_control_flow_graph.specs.Blocks.{blocksOf, flowTable}
 use Rattle.livevar_analysis.specs.Analysis.{LiveVarInfo, analyze}
-use Rattle.livevar_transform.specs.Rewrite.{infoAt, Written, rewritten}
-use Rattle.listing.specs.Lines.{decimal, hex}
-use Rattle.listing.specs.Text.{refusedText}
-use Rattle.pages.specs.Words.{ascii, said, marked}
+use Rattle.livevar_transform.specs.Rewrite.{infoAt, rewriteReply}
+use Rattle.listing.specs.Words.{ascii, hex, decimal, said}
+use Rattle.listing.specs.Lines.{refusedText}
+use Rattle.pages.specs.Words.{marked}
 use Rattle.pages.specs.Code.{localsIn, codeText}
+use Rattle.pages.specs.Size.{pageBytes}
 
 -- ---- blocks
 
@@ -30,13 +32,13 @@ blockLine row = boundsText row ++ leadsText row ++ ascii "\n"
 
 -- a line for each of m blocks of a flow table, and how many there are
 unfoldable pub flowText : ℕ → List ℕ → List ℕ
-flowText m table = joins m (λ i. blockLine (part table (6 * i) 6)) ++ said (ascii "blocks ") m ++ ascii "\n"
+flowText m table = joins m (λ i. blockLine (part table (rowNumbers * i) rowNumbers)) ++ said (ascii "blocks ") m ++ ascii "\n"
 
 -- ---- live sets
 
 -- a set in hex, and its locals
 unfoldable pub setText : ℕ → List ℕ
-setText m = (32 ∷ hex m) ++ localsIn m
+setText m = (ascii " " ++ hex m) ++ localsIn m
 
 -- the line of the sets of the instruction at offset k
 unfoldable pub liveLine : ℕ → LiveVarInfo → List ℕ
@@ -49,25 +51,30 @@ liveText info taken = joins (length info) (λ k. liveLine k (infoAt info k)) ++ 
 -- ---- the page
 
 -- the rewritten code, or refusal 10 or 11
-unfoldable pub rewrittenText : Written → List ℕ
-rewrittenText (Written.Sheet t) = codeText t
-rewrittenText Written.NoNumber = refusedText 10 0
-rewrittenText Written.TooLong = refusedText 11 0
+unfoldable pub rewrittenText : Reply → List ℕ
+rewrittenText (No num place) = refusedText num place
+rewrittenText (Done size sheet) = codeText sheet
 
 -- four sections with an empty line between them
 unfoldable pub sections : List ℕ → List ℕ
 sections s =
     let code = codeOf s in
     let live = analyze code (localsOf s) in
-    ascii "code\n" ++ codeText s
-    ++ ascii "\nflow\n" ++ flowText (blocksOf code) (flowTable code)
-    ++ ascii "\nlive\n" ++ liveText (live .info) (live .taken)
-    ++ ascii "\nrewritten\n" ++ rewrittenText (rewritten s)
+    (ascii "code\n" ++ codeText s)
+    ++ (ascii "\nflow\n" ++ flowText (blocksOf code) (flowTable code))
+    ++ (ascii "\nlive\n" ++ liveText (live .info) (live .taken))
+    ++ (ascii "\nrewritten\n" ++ rewrittenText (rewriteReply s maxBytes))
 
 -- the sections of an accepted sheet; one line of a refused one
-unfoldable pub pageBy : Answer → List ℕ → List ℕ
+unfoldable pub pageBy : Verdict → List ℕ → List ℕ
 pageBy Accepted s = sections s
 pageBy (Refused num place) s = refusedText num place
 
 unfoldable pub page : List ℕ → List ℕ
 page s = pageBy (checkSheet s) s
+
+-- ---- the call
+
+-- 9 where fewer bytes are lent; else the page, a refused sheet's too, and its length
+unfoldable pub pageReply : List ℕ → ℕ → Reply
+pageReply s lent = reply (lends lent pageBytes) (Done (length (page s)) (page s))

@@ -1,27 +1,60 @@
--- How long a page can be. Assumes nothing.
-use Prim.Native.Nat.{ℕ, _+_, _*_}
-use Rattle.base.specs.Sizes.{setBytes, maxLocals, maxInstructions}
+-- How long a page can be, by the digits that each kind of number has at most. Assumes nothing.
+use Prim.Native.Nat.{ℕ, _+_, _*_, _/_}
+use Rattle.base.specs.Sizes.{setBytes, listPlaces, maxLocals, maxInstructions}
 
--- of every number 20 digits are counted; of a local in a set three, and " t"
+-- ---- digits
+
+-- of an offset, a count, a label, an attribute id and a key
+abbrev pub numberDigits : ℕ
+numberDigits = 5
+
+abbrev pub payloadDigits : ℕ
+payloadDigits = 10
+
+-- of a local: two to 100 locals, three to 356
+abbrev pub localDigits : ℕ
+localDigits = 2 + (maxLocals + 155) / 256
+
+-- ---- a sheet's code
+
+-- the locals of a set, " t" before each
 abbrev pub localsBytes : ℕ
-localsBytes = 5 * maxLocals
+localsBytes = maxLocals * (2 + localDigits)
 
+-- the words, three counts, and the locals that are references
 abbrev pub headingBytes : ℕ
-headingBytes = 100 + localsBytes
+headingBytes = 37 + 3 * numberDigits + localsBytes
 
--- a line with eight destinations and eight sources
+-- the words, offset, labels, abort action, payload and attribute id, and two full lists
 abbrev pub codeLineBytes : ℕ
-codeLineBytes = 580
+codeLineBytes = 60 + 6 * numberDigits + payloadDigits + 2 * listPlaces * (2 + localDigits)
 
 abbrev pub codeBytes : ℕ
 codeBytes = headingBytes + maxInstructions * codeLineBytes
 
+-- ---- blocks
+
 abbrev pub blockLineBytes : ℕ
-blockLineBytes = 150
+blockLineBytes = 24 + 6 * numberDigits
+
+-- a line for each block, and how many there are
+abbrev pub flowBytes : ℕ
+flowBytes = maxInstructions * blockLineBytes + 8 + numberDigits
+
+-- ---- live sets
+
+abbrev pub setTextBytes : ℕ
+setTextBytes = 1 + 2 * setBytes + localsBytes
 
 abbrev pub liveLineBytes : ℕ
-liveLineBytes = 40 + 2 * (1 + 2 * setBytes + localsBytes)
+liveLineBytes = 16 + numberDigits + 2 * setTextBytes
 
--- room for the longest page
+-- a line for each instruction, and the count of blocks taken
+abbrev pub liveTextBytes : ℕ
+liveTextBytes = maxInstructions * liveLineBytes + 7 + payloadDigits
+
+-- ---- the page
+
+-- four sections and their titles: 972,500 bytes with 64 locals
 abbrev pub pageBytes : ℕ
-pageBytes = 2 * codeBytes + maxInstructions * (blockLineBytes + liveLineBytes) + 100
+pageBytes = 28 + 2 * codeBytes + flowBytes + liveTextBytes

@@ -9,24 +9,15 @@ use native.Mathlib.Omega.{arith}
 use borrow.Author.Tests.{eq-eqb, ne-eqb}
 use lib.Dec.{eqb}
 use lib.ListN.{length, getD, take, drop}
-use lib.Seq.{drop-cons, take-suc, take-all, take-at, length-take-le}
+use lib.Seq.{drop-cons, take-suc, take-all}
 use Rattle.base.specs.Lists.{gather}
 use Rattle.base.specs.ListLaws.{by-test}
-use Rattle.base.specs.PutLaws.{Put, put-length}
-use Rattle.pages.specs.Words.{word, said, marked, listed}
+use Rattle.listing.specs.Words.{said}
+use Rattle.listing.specs.OutputLaws.{drop-past}
+use Rattle.pages.specs.Words.{word, marked, listed}
+use Rattle.pages.specs.Parts.{shown, leftAfter, endsAt}
 
 -- ---- one step, as the code takes it
-
--- the byte is part of the word
-unfoldable pub shown : ℕ → ℕ → List ℕ
-shown i b = cond (eqb i 0) (b ∷ []) []
-
--- how many words are left to pass behind it
-unfoldable pub leftAfter : ℕ → ℕ → ℕ
-leftAfter i b = cond (eqb b 124) (i - 1) i
-
-unfoldable pub endsAt : ℕ → ℕ → Bool
-endsAt i b = eqb i 0 && eqb b 124
 
 pub word-step : (i b : ℕ) (bs : List ℕ) → word i (b ∷ bs) ≡ cond (endsAt i b) [] (shown i b ++ word (leftAfter i b) bs)
 unfolding word shown leftAfter endsAt
@@ -68,16 +59,6 @@ ends-not i b n = rw (ne-eqb i 0 n)
 word-at : (i : ℕ) (t : List ℕ) (k : ℕ) → k < length t → word i (drop k t) ≡ cond (endsAt i (getD t k 0)) [] (shown i (getD t k 0) ++ word (leftAfter i (getD t k 0)) (drop (k + 1) t))
 word-at i t k h = ap (word i) (drop-cons t k 0 h) ∙ ap (λ (n : ℕ). word i (getD t k 0 ∷ drop n t)) (sym (add-one k)) ∙ word-step i (getD t k 0) (drop (k + 1) t)
 
-pub drop-past : (k : ℕ) (t : List ℕ) → length t ≤ k → drop k t ≡ []
-drop-past zero [] h = refl
-drop-past zero (x ∷ t) h = absurd (omega arith)
-drop-past (suc k) [] h = refl
-drop-past (suc k) (x ∷ t) h = drop-past k t (omega arith)
-
--- from place k on: the byte there, and the rest
-pub drop-one : (t : List ℕ) (k : ℕ) → k < length t → drop k t ≡ (getD t k 0 ∷ []) ++ drop (k + 1) t
-drop-one t k h = drop-cons t k 0 h ∙ ap (λ (n : ℕ). getD t k 0 ∷ drop n t) (sym (add-one k))
-
 pub word-end : (i : ℕ) (t : List ℕ) (k : ℕ) → length t ≤ k → word i (drop k t) ≡ []
 unfolding word
 word-end i t k h = ap (word i) (drop-past k t h)
@@ -112,14 +93,6 @@ listed-more a b xs i h = ap (λ (n : ℕ). listed a b (take n xs)) (add-one i) �
 
 pub listed-all : (a b xs : List ℕ) (i n : ℕ) → length xs ≤ i → i ≤ n → listed a b (take i xs) ≡ listed a b (take n xs)
 listed-all a b xs i n h g = ap (listed a b) (take-all i xs h ∙ sym (take-all n xs (omega arith)))
-
--- ---- digits that were put at the front of an array
-
-pub put-digits : {old new t : List ℕ} {n : ℕ} → Put old 0 t new n → take n new ≡ t
-put-digits {old} {new} {t} {n} p = ap (take n) (p .is) ∙ take-at t (drop n old) n (sym (omega (arith, p .ends)))
-
-pub digits-long : {old new t : List ℕ} {n : ℕ} → Put old 0 t new n → n ≡ length (take n new)
-digits-long {old} {new} {t} {n} p = sym (length-take-le n new (omega (arith, p .inside, put-length p)))
 
 -- ---- a text without words
 

@@ -1,18 +1,10 @@
--- Words and numbers in text. Assumes nothing.
+-- Words of a text, and numbers behind words. Assumes nothing.
 use Prim.Native.Nat.{ℕ, zero, suc}
-use Prim.Native.Char.{code}
-use Prim.Native.String.{String}
-use Prim.Native.String as text
 use mathlib.Core.Bool.{cond}
 use mathlib.Core.List.{List, [], _∷_, _++_}
 use lib.Dec.{eqb}
 use Rattle.base.specs.Lists.{gather}
-use Rattle.listing.specs.Lines.{decimal}
-
--- the bytes of a text: every character here is ASCII
-abbrev pub ascii : String → List ℕ
-ascii text.[] = []
-ascii (text._∷_ c cs) = code c ∷ ascii cs
+use Rattle.listing.specs.Words.{said}
 
 -- word i of a text that has a bar behind each word
 unfoldable pub word : ℕ → List ℕ → List ℕ
@@ -20,11 +12,7 @@ word i [] = []
 word zero (b ∷ bs) = cond (eqb b 124) [] (b ∷ word zero bs)
 word (suc i) (b ∷ bs) = cond (eqb b 124) (word i bs) (word (suc i) bs)
 
--- a word and a number
-abbrev pub said : List ℕ → ℕ → List ℕ
-said w x = w ++ decimal x
-
--- the same, and nothing where the number is 0
+-- a word and a number, and nothing where the number is 0
 unfoldable pub marked : List ℕ → ℕ → List ℕ
 marked w x = cond (eqb x 0) [] (said w x)
 

@@ -1,102 +1,93 @@
-// The page of a sheet. Assumes nothing.
+// The page of any bytes, and the call that writes it. Assumes nothing.
 ghost use mathlib.Core.Path.{_≡_};
-ghost use mathlib.Core.List.{_++_};
-ghost use Prim.Native.Nat.{_≤_};
-ghost use lib.ListN.{length, drop};
-ghost use Rattle.base.specs.Refusals.{Accepted};
-ghost use Rattle.sheet.specs.Checks.{checkSheet};
-ghost use Rattle.livevar_transform.specs.Rewrite.{rewritten};
-ghost use Rattle.listing.specs.Text.{refusedText};
-ghost use Rattle.pages.specs.Page.{rewrittenText, sections, page};
-ghost use Rattle.pages.specs.PageLaws.{codeAndFlow};
-ghost use Rattle.pages.specs.Output.{Wrote};
-ghost use Rattle.pages.specs.Size.{pageBytes};
-use crate::blocks::put_flow;
-use crate::code::put_code;
-use crate::output::put_bytes;
-use crate::output::put_number;
-use crate::output::wide16;
-use crate::sets::put_live;
-use base::MAX_BYTES;
+ghost use lib.ListN.{length};
+ghost use Rattle.base.specs.Refusals.{resultOf, answerOf, outputAfter};
+ghost use Rattle.stackless_control_flow_graph.specs.Arrays.{CheckedSheet};
+ghost use Rattle.listing.specs.Output.{Wrote};
+ghost use Rattle.pages.specs.Page.{sections, page, pageReply};
+use crate::sections::put_code_section;
+use crate::sections::put_flow_section;
+use crate::sections::put_live_section;
+use crate::sections::put_rewritten_section;
+use base::Answer;
+use base::Checked;
+use base::LIST_PLACES;
+use base::LIVE_BYTES;
 use base::MAX_INSTRUCTIONS;
 use base::MAX_LOCALS;
+use base::Refusal;
 use base::SET_BYTES;
-use livevar_transform::rewrite::Rewritten;
-use livevar_transform::rewrite::rewrite;
-use sheet::Checked;
-use sheet::check::check;
+use base::SLOTS;
+use listing::text::put_refused;
+use livevar_analysis::analysis::analyze;
+use sheet::reader::u16_at;
+use sheet_checks::check::check_into;
 
-// The locals of a set: three digits each, and " t".
-const LOCALS_BYTES: usize = 5 * MAX_LOCALS;
+// The digits of an offset, a count, a label or an attribute id; of a payload; and of a local: two to 100 locals, three to 356.
+const NUMBER: usize = 5;
 
-// A sheet's code: the heading, and lines with eight destinations and eight sources.
-const CODE_BYTES: usize = 100 + LOCALS_BYTES + MAX_INSTRUCTIONS * 580;
+const PAYLOAD: usize = 10;
 
-// The lines of a block and of an instruction's sets.
-const LINE_BYTES: usize = 150 + 40 + 2 * (1 + 2 * SET_BYTES + LOCALS_BYTES);
+const LOCAL: usize = 2 + (MAX_LOCALS + 155) / 256;
 
-// Room for the longest page.
-pub const PAGE_BYTES: usize = 2 * CODE_BYTES + MAX_INSTRUCTIONS * LINE_BYTES + 100;
+// The locals of a set, " t" before each.
+const LOCALS_BYTES: usize = MAX_LOCALS * (2 + LOCAL);
 
-// A refusal's line.
-fn put_refused(number: u16, place: u16, out: &mut [u8], at: usize) -> usize
-    ensures { λ r. ⌜ Wrote (now (out .entry)) at (refusedText number place) (now (out .exit)) r ⌝ }
+// A sheet's code: the heading, and a line for each instruction, with two full lists.
+const HEADING_BYTES: usize = 37 + 3 * NUMBER + LOCALS_BYTES;
+
+const CODE_LINE_BYTES: usize = 60 + 6 * NUMBER + PAYLOAD + 2 * LIST_PLACES * (2 + LOCAL);
+
+const CODE_BYTES: usize = HEADING_BYTES + MAX_INSTRUCTIONS * CODE_LINE_BYTES;
+
+// The blocks: a line for each, and how many there are.
+const FLOW_BYTES: usize = MAX_INSTRUCTIONS * (24 + 6 * NUMBER) + 8 + NUMBER;
+
+// The live sets: a line of two sets for each instruction, and the count of blocks taken.
+const LIVE_TEXT_BYTES: usize = MAX_INSTRUCTIONS
+    * (16 + NUMBER + 2 * (1 + 2 * SET_BYTES + LOCALS_BYTES))
+    + 7
+    + PAYLOAD;
+
+// Room for the longest section, with its title; and for the longest page.
+pub const SECTION_BYTES: usize = 11 + LIVE_TEXT_BYTES;
+
+pub const PAGE_BYTES: usize = 28 + 2 * CODE_BYTES + FLOW_BYTES + LIVE_TEXT_BYTES;
+
+// The sections of a checked sheet of n instructions, the offsets of whose labels are `targets`.
+fn put_sections(s: &[u8], n: usize, targets: &[u16], out: &mut [u8]) -> usize
+    requires { ⌜ CheckedSheet (now s) n (now targets) ⌝ }
+    ensures { λ r. ⌜ Wrote (now (out .entry)) 0 (sections (now (s .entry))) (now (out .exit)) r ⌝ }
 {
-    let a = put_number(b"refused ", wide16(number), out, at);
-    let e = put_number(b" ", wide16(place), out, a);
-    put_bytes(b"\n", out, e)
+    let mut sets = [0u8; LIVE_BYTES];
+    let taken = analyze(s, n, targets, &mut sets);
+    let a = put_code_section(s, out, 0);
+    let b = put_flow_section(s, n, targets, out, a);
+    let e = put_live_section(&sets, n, taken, out, b);
+    put_rewritten_section(s, n, targets, &sets, out, e)
 }
 
-// The rewritten code of an accepted sheet, or refusal 10 or 11.
-fn put_rewritten(s: &[u8], out: &mut [u8], at: usize) -> usize
-    requires { ⌜ checkSheet (now s) ≡ Accepted ⌝ }
-    ensures { λ r. ⌜ Wrote (now (out .entry)) at (rewrittenText (rewritten (now (s .entry)))) (now (out .exit)) r ⌝ }
+// The page of any bytes, as far as `out` goes; the result is the place behind it.
+pub fn put_page(s: &[u8], out: &mut [u8]) -> usize
+    ensures { λ r. ⌜ Wrote (now (out .entry)) 0 (page (now (s .entry))) (now (out .exit)) r ⌝ }
 {
-    let mut new = [0u8; MAX_BYTES];
-    match rewrite(s, &mut new) {
-        Rewritten::Refused(f) => put_refused(f.number(), f.place(), out, at),
-        Rewritten::Length(n) => {
-            let e = n as usize;
-            put_code(&new[..e], out, at)
+    let mut targets = [0u16; SLOTS];
+    match check_into(s, &mut targets) {
+        Checked::Refused(f) => put_refused(f.number(), f.place(), out, 0),
+        Checked::Accepted => {
+            let n = u16_at(s, 4) as usize;
+            put_sections(s, n, &targets, out)
         }
     }
 }
 
-fn put_code_and_flow(s: &[u8], out: &mut [u8], at: usize) -> usize
-    requires { ⌜ checkSheet (now s) ≡ Accepted ⌝ }
-    ensures { λ r. ⌜ Wrote (now (out .entry)) at (codeAndFlow (now (s .entry))) (now (out .exit)) r ⌝ }
+// The page of any bytes at the front of `out`, and its length: of a refused sheet, the line that says so.
+pub fn page(s: &[u8], out: &mut [u8]) -> Answer
+    ensures result { λ r. ⌜ answerOf r ≡ resultOf (pageReply (now (s .entry)) (length (now (out .entry)))) ⌝ }
+    ensures written { λ _. ⌜ now (out .exit) ≡ outputAfter (pageReply (now (s .entry)) (length (now (out .entry)))) (now (out .entry)) ⌝ }
 {
-    let a = put_bytes(b"code\n", out, at);
-    let b = put_code(s, out, a);
-    let e = put_bytes(b"\nflow\n", out, b);
-    put_flow(s, out, e)
-}
-
-fn put_sections(s: &[u8], out: &mut [u8], at: usize) -> usize
-    requires { ⌜ checkSheet (now s) ≡ Accepted ⌝ }
-    ensures { λ r. ⌜ Wrote (now (out .entry)) at (sections (now (s .entry))) (now (out .exit)) r ⌝ }
-{
-    let a = put_code_and_flow(s, out, at);
-    let b = put_bytes(b"\nlive\n", out, a);
-    let d = put_live(s, out, b);
-    let e = put_bytes(b"\nrewritten\n", out, d);
-    put_rewritten(s, out, e)
-}
-
-// The page of any bytes, as far as `out` goes.
-fn put_page(s: &[u8], out: &mut [u8]) -> usize
-    ensures { λ r. ⌜ Wrote (now (out .entry)) 0 (page (now (s .entry))) (now (out .exit)) r ⌝ }
-{
-    match check(s) {
-        Checked::Refused(f) => put_refused(f.number(), f.place(), out, 0),
-        Checked::Accepted => put_sections(s, out, 0),
+    if out.len() < PAGE_BYTES {
+        return Answer::Refused(Refusal::OutputShort);
     }
-}
-
-// The page of any bytes, at the front of `out`; the result is its length.
-pub fn print_page(s: &[u8], out: &mut [u8]) -> usize
-    requires { ⌜ pageBytes ≤ length (now out) ⌝ }
-    ensures { λ r. ⌜ (now (out .exit) ≡ page (now (s .entry)) ++ drop r (now (out .entry))) × (r ≡ length (page (now (s .entry)))) × (r ≤ length (now (out .entry))) ⌝ }
-{
-    put_page(s, out)
+    Answer::Value(put_page(s, out) as u32)
 }

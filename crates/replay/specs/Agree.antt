@@ -4,7 +4,7 @@ use mathlib.Core.Path.{_≡_}
 use mathlib.Core.Bool.{Bool, true}
 use mathlib.Core.List.{List, [], _∷_, _++_}
 use lib.ListN.{length, take, drop}
-use Rattle.base.specs.Refusals.{Reply, resultOf, left}
+use Rattle.base.specs.Refusals.{Reply, resultOf, outputAfter}
 use Rattle.c_api.specs.Packed.{packed}
 
 -- b says whether P
@@ -13,7 +13,7 @@ Says b P = (b ≡ true → P) × (P → b ≡ true)
 
 -- the first `lent` elements of `out` are lent to a call: what `out` holds once it has replied, the rest as it was
 abbrev pub after : Reply → ℕ → List ℕ → List ℕ
-after r lent out = left r (take lent out) ++ drop lent out
+after r lent out = outputAfter r (take lent out) ++ drop lent out
 
 -- the reply in one number is the stored result
 abbrev pub Answers : Reply → ℕ → Type 0
@@ -30,10 +30,10 @@ pairs [] = []
 pairs (x ∷ xs) = x % 256 ∷ x / 256 ∷ pairs xs
 
 -- xs at the front of d
-abbrev pub over : List ℕ → List ℕ → List ℕ
-over xs d = xs ++ drop (length xs) d
+abbrev pub atFront : List ℕ → List ℕ → List ℕ
+atFront xs d = xs ++ drop (length xs) d
 
 -- a table is lent, and its bytes are then written to the front of `out`
 pub record AgreesPairs (r : Reply) (lent result : ℕ) (table out want : List ℕ) : Type 0 where
   pub answer : Answers r result
-  pub output : over (pairs (after r lent table)) out ≡ want
+  pub output : atFront (pairs (after r lent table)) out ≡ want

@@ -8,7 +8,7 @@ use lib.Dec.{eqb}
 use lib.ListN.{length, take, drop, length-take}
 use lib.Seq.{length-take-le}
 use borrow.Author.Tests.{eqb-true, eq-eqb}
-use Rattle.base.specs.Refusals.{Reply, resultOf, left}
+use Rattle.base.specs.Refusals.{Reply, resultOf, outputAfter}
 use Rattle.c_api.specs.Packed.{packed}
 use Rattle.replay.specs.Agree.{Says, Answers, Agrees, after}
 
@@ -25,12 +25,12 @@ answered r got result is = (λ t. sym is ∙ eqb-true got result t, λ a. eq-eqb
 
 -- a call is lent the front of `out`, replies with `got` and leaves `last` there; b compares both
 pub agreed : (f : ℕ → Reply) (lent result got : ℕ) (out last want : List ℕ) (b : Bool) → lent ≤ length out
-    → got ≡ packed (resultOf (f (length (take lent out)))) → last ≡ left (f (length (take lent out))) (take lent out)
+    → got ≡ packed (resultOf (f (length (take lent out)))) → last ≡ outputAfter (f (length (take lent out))) (take lent out)
     → Says b ((got ≡ result) × (last ++ drop lent out ≡ want))
     → Says b (Agrees (f lent) lent result out want)
 agreed f lent result got out last want b h is kept says =
     let e : length (take lent out) ≡ lent = length-take-le lent out h in
     let a : packed (resultOf (f lent)) ≡ got = ap (λ (n : ℕ). packed (resultOf (f n))) (sym e) ∙ sym is in
     let o : after (f lent) lent out ≡ last ++ drop lent out =
-    ap (λ (n : ℕ). left (f n) (take lent out) ++ drop lent out) (sym e) ∙ ap (λ (l : List ℕ). l ++ drop lent out) (sym kept) in
+    ap (λ (n : ℕ). outputAfter (f n) (take lent out) ++ drop lent out) (sym e) ∙ ap (λ (l : List ℕ). l ++ drop lent out) (sym kept) in
     (λ t. record { answer = a ∙ says .0 t .0; output = o ∙ says .0 t .1 }, λ w. says .1 (sym a ∙ w .answer, sym o ∙ w .output))

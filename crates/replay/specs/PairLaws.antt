@@ -7,9 +7,9 @@ use mathlib.Core.List.{List, [], _∷_, _++_}
 use lib.ListN.{length, getD, take, drop, set, length-set}
 use lib.Seq.{length-take-le}
 use Rattle.base.specs.WriteLaws.{wrote, wrote-more, wrote-all}
-use Rattle.base.specs.Refusals.{Reply, resultOf, left}
+use Rattle.base.specs.Refusals.{Reply, resultOf, outputAfter}
 use Rattle.c_api.specs.Packed.{packed}
-use Rattle.replay.specs.Agree.{Says, pairs, over, after, AgreesPairs}
+use Rattle.replay.specs.Agree.{Says, pairs, atFront, after, AgreesPairs}
 
 pub pairs-length : (xs : List ℕ) → length (pairs xs) ≡ 2 * length xs
 unfolding pairs
@@ -48,20 +48,20 @@ pub inside-set : (out : List ℕ) (k x j : ℕ) → j < length out → j < lengt
 inside-set out k x j h = simp length-set h
 
 -- the end: every number
-pub pairs-all : (d xs out : List ℕ) (i : ℕ) → i ≡ length xs → out ≡ wrote d (pairs xs) (2 * i) → out ≡ over (pairs xs) d
+pub pairs-all : (d xs out : List ℕ) (i : ℕ) → i ≡ length xs → out ≡ wrote d (pairs xs) (2 * i) → out ≡ atFront (pairs xs) d
 pairs-all d xs out i e q =
     let l : 2 * i ≡ length (pairs xs) = omega (arith, pairs-length xs) in
     q ∙ wrote-all d (pairs xs) (2 * i) l
 
 -- a call is lent the front of `table`, replies with `got` and leaves `last` there; its bytes are written over `out`, and b compares both
 pub agreed-pairs : (f : ℕ → Reply) (lent result got : ℕ) (table last out new want : List ℕ) (b : Bool) → lent ≤ length table
-    → got ≡ packed (resultOf (f (length (take lent table)))) → last ≡ left (f (length (take lent table))) (take lent table)
-    → new ≡ over (pairs (last ++ drop lent table)) out → Says b ((got ≡ result) × (new ≡ want))
+    → got ≡ packed (resultOf (f (length (take lent table)))) → last ≡ outputAfter (f (length (take lent table))) (take lent table)
+    → new ≡ atFront (pairs (last ++ drop lent table)) out → Says b ((got ≡ result) × (new ≡ want))
     → Says b (AgreesPairs (f lent) lent result table out want)
 agreed-pairs f lent result got table last out new want b h is kept bytes says =
     let e : length (take lent table) ≡ lent = length-take-le lent table h in
     let a : packed (resultOf (f lent)) ≡ got = ap (λ (n : ℕ). packed (resultOf (f n))) (sym e) ∙ sym is in
-    let o : over (pairs (after (f lent) lent table)) out ≡ new =
-    ap (λ (n : ℕ). over (pairs (left (f n) (take lent table) ++ drop lent table)) out) (sym e)
-    ∙ ap (λ (l : List ℕ). over (pairs (l ++ drop lent table)) out) (sym kept) ∙ sym bytes in
+    let o : atFront (pairs (after (f lent) lent table)) out ≡ new =
+    ap (λ (n : ℕ). atFront (pairs (outputAfter (f n) (take lent table) ++ drop lent table)) out) (sym e)
+    ∙ ap (λ (l : List ℕ). atFront (pairs (l ++ drop lent table)) out) (sym kept) ∙ sym bytes in
     (λ t. record { answer = a ∙ says .0 t .0; output = o ∙ says .0 t .1 }, λ w. says .1 (sym a ∙ w .answer, sym o ∙ w .output))

@@ -3,12 +3,12 @@ ghost use Prim.Native.Nat.{_+_, _*_, _%_, _/_, _≤_};
 ghost use mathlib.Core.Path.{_≡_};
 ghost use lib.ListN.{length};
 ghost use Rattle.c_api.specs.Packed.{checkReply};
-ghost use Rattle.borrow_analysis.specs.Graph.{given};
+ghost use Rattle.borrow_analysis.specs.Graph.{graphInput};
 ghost use Rattle.borrow_analysis.specs.Borrows.{inUseReply, conditionalReply, dyingReply};
 ghost use Rattle.stackless_control_flow_graph.specs.Blocks.{flowReply};
 ghost use Rattle.livevar_analysis.specs.Analysis.{liveReply};
 ghost use Rattle.livevar_transform.specs.Rewrite.{rewriteReply};
-ghost use Rattle.replay.specs.Agree.{Says, Answers, Agrees, AgreesPairs, over, pairs};
+ghost use Rattle.replay.specs.Agree.{Says, Answers, Agrees, AgreesPairs, atFront, pairs};
 use crate::packed::FILL;
 use crate::packed::ROOM;
 use c_api::sorzibelu_check;
@@ -38,6 +38,12 @@ const NO_GRAPH: usize = TRIPLE_NUMBERS + 1;
 
 // The longest graph.
 pub const GRAPH_BYTES: usize = TRIPLES_AT + 4 * TRIPLE_NUMBERS;
+
+// How much a case lends, and the result that is stored.
+pub struct StoredCase {
+    pub lent: usize,
+    pub result: u64,
+}
 
 // What came of a case: the call answered as it is stored; otherwise; or the case cannot be asked.
 pub enum Came {
@@ -75,7 +81,7 @@ fn high(x: u16) -> u8
 // The two bytes of each number, at the front of `out`.
 fn bytes_of(table: &[u16], out: &mut [u8])
     requires { ⌜ 2 * length (now table) ≤ length (now out) ⌝ }
-    ensures { λ _. ⌜ now (out .exit) ≡ over (pairs (now (table .entry))) (now (out .entry)) ⌝ }
+    ensures { λ _. ⌜ now (out .exit) ≡ atFront (pairs (now (table .entry))) (now (out .entry)) ⌝ }
 {
     let mut i = 0;
     while i < table.len() {
@@ -124,13 +130,13 @@ fn check_agrees(sheet: &[u8], result: u64) -> bool
 }
 
 fn in_use_agrees(nodes: u32, live: u64, triples: &[u32], node: u32, result: u64) -> bool
-    ensures { λ r. ⌜ Says r (Answers (inUseReply (given nodes live (now (triples .entry))) node) result) ⌝ }
+    ensures { λ r. ⌜ Says r (Answers (inUseReply (graphInput nodes live (now (triples .entry))) node) result) ⌝ }
 {
     sorzibelu_in_use(nodes, live, triples, node) == result
 }
 
 fn conditional_agrees(nodes: u32, live: u64, triples: &[u32], node: u32, result: u64) -> bool
-    ensures { λ r. ⌜ Says r (Answers (conditionalReply (given nodes live (now (triples .entry))) node) result) ⌝ }
+    ensures { λ r. ⌜ Says r (Answers (conditionalReply (graphInput nodes live (now (triples .entry))) node) result) ⌝ }
 {
     sorzibelu_conditional(nodes, live, triples, node) == result
 }
@@ -142,14 +148,14 @@ fn dying_agrees(
     next_nodes: u32,
     next_live: u64,
     next_triples: &[u32],
-    lent: usize,
-    result: u64,
+    stored: StoredCase,
     want: &[u8],
     out: &mut [u8],
 ) -> bool
-    requires { ⌜ lent ≤ length (now out) ⌝ }
-    ensures { λ r. ⌜ Says r (Agrees (dyingReply (given nodes live (now (triples .entry))) (given «next_nodes» «next_live» (now («next_triples» .entry))) lent) lent result (now (out .entry)) (now (want .entry))) ⌝ }
+    requires { ⌜ stored .lent ≤ length (now out) ⌝ }
+    ensures { λ r. ⌜ Says r (Agrees (dyingReply (graphInput nodes live (now (triples .entry))) (graphInput «next_nodes» «next_live» (now («next_triples» .entry))) (stored .lent)) (stored .lent) (stored .result) (now (out .entry)) (now (want .entry))) ⌝ }
 {
+    let lent = stored.lent;
     let r = sorzibelu_dying(
         nodes,
         live,
@@ -159,7 +165,7 @@ fn dying_agrees(
         next_triples,
         &mut out[..lent],
     );
-    agrees(r, result, out, want)
+    agrees(r, stored.result, out, want)
 }
 
 // The list of triples behind a graph's count and mask, at the front of `out`; the result is its length, above TRIPLE_NUMBERS where these bytes are no graph.
@@ -264,8 +270,7 @@ fn ask_dying(graph: &[u8], next: &[u8], lent: usize, result: u64, want: &[u8]) -
         u32_at(next, 0),
         u64_at(next, 4),
         &next_triples[..m],
-        lent,
-        result,
+        StoredCase { lent, result },
         want,
         &mut out,
     ))

@@ -1,4 +1,5 @@
 // Packed strings, and the fill behind what is written. Assumes nothing.
+use base::width::u8_to_usize;
 
 // The longest string of bytes, and the bytes of a lent output with those behind it: 72 blocks of a sheet.
 pub const ROOM: usize = 36864;
@@ -8,10 +9,6 @@ pub const TOO_LONG: usize = ROOM + 1;
 
 // What lent output holds before a call.
 pub const FILL: u8 = 165;
-
-fn wide(x: u8) -> usize {
-    x as usize
-}
 
 // A byte that is not 0 is itself, and 0 with a byte c behind it is c zeros. `out` is all zeros, so they are passed over.
 // The result is the number of bytes; above ROOM where there are too many for `out`, or a 0 is the last byte.
@@ -23,7 +20,7 @@ pub fn unpack(p: &[u8], out: &mut [u8]) -> usize {
             if i + 1 == p.len() {
                 return TOO_LONG;
             }
-            let zeros = wide(p[i + 1]);
+            let zeros = u8_to_usize(p[i + 1]);
             if out.len() - at < zeros {
                 return TOO_LONG;
             }

@@ -1,8 +1,8 @@
 -- A sheet with an accepted sheet's heading and other code is accepted where the code meets checks 4 to 8. Assumes nothing.
 use mathlib.Core.Path.{_≡_, refl, sym, ap, ap₂, _∙_, subst}
-use mathlib.Core.Bool.{Bool, true, false, cond, _||_, _&&_, true≢false}
+use mathlib.Core.Bool.{Bool, true, false, cond, _||_, _&&_}
 use mathlib.Core.List.{List}
-use mathlib.Core.Option.{none, some}
+use mathlib.Core.Option.{some}
 use Prim.Native.Nat.{ℕ, zero, suc, _+_, _-_, _*_, _/_, _%_, _^_, _≤_, _<_}
 use native.Mathlib.Omega.{arith}
 use borrow.Author.Tests.{eq-eqb, le-leb, lt-ltb, le-ltb}
@@ -10,8 +10,9 @@ use lib.Dec.{eqb}
 use lib.ListN.{getD, drop, length, length-take, length-drop}
 use lib.Seq.{getD-take, getD-drop}
 use Rattle.stackless_bytecode.specs.declared.Bytecode.{Bytecode}
-use Rattle.base.specs.Sizes.{setBytes, blockBytes}
-use Rattle.base.specs.Refusals.{Accepted, whole}
+use Rattle.base.specs.Sizes.{setBytes, refsAt, blockBytes, recordBytes, recordsFrom, blockRecords, maxBlocks, maxBytes}
+use Rattle.base.specs.Refusals.{Accepted}
+use Rattle.base.specs.RefusalLaws.{accepted-none, accepted-whole}
 use Rattle.base.specs.Lists.{zeros}
 use Rattle.base.specs.Bytes.{number, part, u16At}
 use Rattle.sheet.specs.Layout.{headingRest, userLocalsOf, parametersOf, blockAt, checkOf, countOf, localsOf, refsOf, recordBlocks, recordStart, decode, codeOf, sheetOf}
@@ -22,43 +23,38 @@ use Rattle.base.specs.SearchLaws.{all-none}
 use Rattle.sheet.specs.CheckLaws.{clear}
 use Rattle.sheet_writer.specs.EncodeLaws.{record-again, sheet-length, first-block, later-block, record-part, zero-part, count-again, rest-again, code-again, heading-number, heading-check, later-number, later-check, later-zeros}
 use Rattle.base.specs.PartLaws.{same-part}
-use Rattle.sheet.specs.AcceptLaws.{and-both, Heading, is-heading, heading-is}
-use Rattle.sheet_writer.specs.BodyLaws.{accept, Body, code-accepted}
-
-whole-none : (b : Bool) → b ≡ true → whole b ≡ none
-unfolding whole
-whole-none true e = refl
-whole-none false e = absurd (true≢false (sym e))
+use Rattle.sheet.specs.AcceptLaws.{and-both, HeadingLayout, is-heading, heading-is}
+use Rattle.sheet_writer.specs.BodyLaws.{both, Body, code-accepted}
 
 -- ---- the whole sheet
 
 module _ (s : List ℕ) (e : checkSheet s ≡ Accepted) (code : List Bytecode) (body : Body (localsOf s) code) where
-  old : Heading s
+  old : HeadingLayout s
   old = is-heading s (clear s e .three)
 
   abbrev sheet : List ℕ
   sheet = sheetOf (headingRest s) code
 
-  long : 1024 ≤ length s
+  long : 2 * blockBytes ≤ length s
   long = unfold recordBlocks in omega (arith, old .size, old .some)
 
-  full : length (headingRest s) ≡ 506
-  full = length-take 506 (drop 6 s) ∙ (omega (arith, length-drop 6 s, long))
+  full : length (headingRest s) ≡ blockBytes - 6
+  full = length-take (blockBytes - 6) (drop 6 s) ∙ (omega (arith, length-drop 6 s, long))
 
-  new-size : length sheet ≡ 512 * (1 + recordBlocks (length code))
+  new-size : length sheet ≡ blockBytes * (1 + recordBlocks (length code))
   new-size = sheet-length (headingRest s) code full
 
-  same-byte : (j : ℕ) → 6 ≤ j → j < 512 → getD sheet j 0 ≡ getD s j 0
+  same-byte : (j : ℕ) → 6 ≤ j → j < blockBytes → getD sheet j 0 ≡ getD s j 0
   same-byte j l h =
       let i = j - 6 in
       let is : 6 + i ≡ j = omega arith in
       ap (λ (x : ℕ). getD sheet x 0) (sym is) ∙ rest-again (headingRest s) code full i (omega arith)
-      ∙ getD-take 506 (drop 6 s) i 0 (omega arith) ∙ getD-drop 6 s i 0 ∙ ap (λ (x : ℕ). getD s x 0) is
+      ∙ getD-take (blockBytes - 6) (drop 6 s) i 0 (omega arith) ∙ getD-drop 6 s i 0 ∙ ap (λ (x : ℕ). getD s x 0) is
 
-  same-u16 : (j : ℕ) → 6 ≤ j → j < 511 → u16At sheet j ≡ u16At s j
+  same-u16 : (j : ℕ) → 6 ≤ j → j < blockBytes - 1 → u16At sheet j ≡ u16At s j
   same-u16 j l h = ap₂ (λ (x y : ℕ). x + 256 * y) (same-byte j l (omega arith)) (same-byte (j + 1) (omega arith) (omega arith))
 
-  pub same-bytes : (a c : ℕ) → 6 ≤ a → a + c ≤ 512 → part sheet a c ≡ part s a c
+  pub same-bytes : (a c : ℕ) → 6 ≤ a → a + c ≤ blockBytes → part sheet a c ≡ part s a c
   same-bytes a c l h = same-part sheet s a c (omega (arith, new-size)) (omega (arith, long)) (λ i b. same-byte (a + i) (omega arith) (omega arith))
 
   pub same-locals : localsOf (sheetOf (headingRest s) code) ≡ localsOf s
@@ -75,7 +71,7 @@ module _ (s : List ℕ) (e : checkSheet s ≡ Accepted) (code : List Bytecode) (
 
   pub same-refs : refsOf (sheetOf (headingRest s) code) ≡ refsOf s
   unfolding refsOf
-  same-refs = ap number (same-bytes 16 setBytes (omega arith) (omega arith))
+  same-refs = ap number (same-bytes refsAt setBytes (omega arith) (omega arith))
 
   pub same-count : countOf (sheetOf (headingRest s) code) ≡ length code
   same-count = count-again (headingRest s) code full (omega (arith, body .few))
@@ -83,7 +79,7 @@ module _ (s : List ℕ) (e : checkSheet s ≡ Accepted) (code : List Bytecode) (
   pub same-code : codeOf (sheetOf (headingRest s) code) ≡ code
   same-code = code-again (headingRest s) code full (omega (arith, body .few)) (body .encodes)
 
-  new-heading : Heading sheet
+  new-heading : HeadingLayout sheet
   new-heading = record {
     some = omega (arith, same-count, body .some);
     few = omega (arith, same-count, body .few);
@@ -93,10 +89,10 @@ module _ (s : List ℕ) (e : checkSheet s ≡ Accepted) (code : List Bytecode) (
     gap = ap zeros (same-bytes 12 4 (omega arith) (omega arith)) ∙ old .gap;
     refs = subst (λ (x : ℕ). refsOf sheet < 2 ^ x) (sym same-locals) (subst (λ (x : ℕ). x < 2 ^ localsOf s) (sym same-refs) (old .refs));
     end = ap zeros (same-bytes (16 + setBytes) (blockBytes - 16 - setBytes) (omega arith) (omega arith)) ∙ old .end;
-    size = new-size ∙ ap (λ (x : ℕ). 512 * (1 + recordBlocks x)) (sym same-count);
+    size = new-size ∙ ap (λ (x : ℕ). blockBytes * (1 + recordBlocks x)) (sym same-count);
   }
 
-  few-blocks : recordBlocks (length code) ≤ 69
+  few-blocks : recordBlocks (length code) < maxBlocks
   few-blocks = unfold recordBlocks in omega (arith, body .few)
 
   some-blocks : 1 ≤ recordBlocks (length code)
@@ -105,18 +101,18 @@ module _ (s : List ℕ) (e : checkSheet s ≡ Accepted) (code : List Bytecode) (
   length-ok : lengthOk (length sheet) ≡ true
   unfolding lengthOk
   length-ok =
-      and-both (and-both (eq-eqb (length sheet % 512) 0 (omega (arith, new-size))) (le-leb 1024 (length sheet) (omega (arith, new-size, some-blocks)))) (le-leb (length sheet) 35840 (omega (arith, new-size, few-blocks)))
+      and-both (and-both (eq-eqb (length sheet % blockBytes) 0 (omega (arith, new-size))) (le-leb (2 * blockBytes) (length sheet) (omega (arith, new-size, some-blocks)))) (le-leb (length sheet) maxBytes (omega (arith, new-size, few-blocks)))
 
   block-ok : (b : ℕ) → b < 1 + recordBlocks (length code) → blockOk (blockAt sheet b) b ≡ true
   unfolding blockOk
   block-ok zero h =
       let is = first-block (headingRest s) code full in
-      ap (λ (p : List ℕ). eqb (u16At p 0) 0 && eqb (u16At p 2) (checkOf p) && (eqb 0 0 || zeros (part p 4 28))) is
+      ap (λ (p : List ℕ). eqb (u16At p 0) 0 && eqb (u16At p 2) (checkOf p) && (eqb 0 0 || zeros (part p 4 (recordsFrom - 4)))) is
       ∙ and-both (and-both (eq-eqb _ 0 (heading-number (headingRest s) code full)) (eq-eqb _ _ (heading-check (headingRest s) code full))) refl
   block-ok (suc b) h =
       let one : suc b ≡ 1 + b = omega arith in
       let is = ap (blockAt sheet) one ∙ later-block (headingRest s) code full b (omega arith) in
-      ap (λ (p : List ℕ). eqb (u16At p 0) (suc b) && eqb (u16At p 2) (checkOf p) && (eqb (suc b) 0 || zeros (part p 4 28))) is
+      ap (λ (p : List ℕ). eqb (u16At p 0) (suc b) && eqb (u16At p 2) (checkOf p) && (eqb (suc b) 0 || zeros (part p 4 (recordsFrom - 4)))) is
       ∙ and-both (and-both (eq-eqb _ (suc b) (later-number (headingRest s) code full b (omega (arith, few-blocks)) ∙ sym one)) (eq-eqb _ _ (later-check (headingRest s) code full b)))
       (ap (λ (x : Bool). eqb (suc b) 0 || x) (later-zeros (headingRest s) code full b) ∙ either (eqb (suc b) 0))
     where
@@ -124,21 +120,21 @@ module _ (s : List ℕ) (e : checkSheet s ≡ Accepted) (code : List Bytecode) (
       either true = refl
       either false = refl
 
-  place-ok : (k : ℕ) → k < 15 * recordBlocks (length code) → placeOk sheet k ≡ true
+  place-ok : (k : ℕ) → k < blockRecords * recordBlocks (length code) → placeOk sheet k ≡ true
   unfolding placeOk
   place-ok k h =
       by-lt k (length code)
-      (λ l. ap (λ (b : Bool). cond b (recordOk (decode (part sheet (recordStart k) 32))) (zeros (part sheet (recordStart k) 32))) (lt-ltb k (countOf sheet) (omega (arith, same-count)))
+      (λ l. ap (λ (b : Bool). cond b (recordOk (decode (part sheet (recordStart k) recordBytes))) (zeros (part sheet (recordStart k) recordBytes))) (lt-ltb k (countOf sheet) (omega (arith, same-count)))
       ∙ ap recordOk (ap decode (record-part (headingRest s) code full k l) ∙ record-again (at code k) (body .encodes k l)) ∙ body .fits k l)
-      (λ l. ap (λ (b : Bool). cond b (recordOk (decode (part sheet (recordStart k) 32))) (zeros (part sheet (recordStart k) 32))) (le-ltb k (countOf sheet) (omega (arith, same-count)))
+      (λ l. ap (λ (b : Bool). cond b (recordOk (decode (part sheet (recordStart k) recordBytes))) (zeros (part sheet (recordStart k) recordBytes))) (le-ltb k (countOf sheet) (omega (arith, same-count)))
       ∙ zero-part (headingRest s) code full k l h)
 
   -- it is accepted
   pub accepted-again : checkSheet (sheetOf (headingRest s) code) ≡ Accepted
   unfolding checkSheet checkForm
   accepted-again =
-      accept 1 _ _ (whole-none _ length-ok)
-      (accept 2 _ _ (all-none (length sheet / 512) 0 (λ b. blockOk (blockAt sheet b) b) (λ j l h. block-ok j (omega (arith, new-size))))
-      (accept 3 _ _ (whole-none _ (heading-is sheet new-heading))
-      (accept 4 _ _ (all-none (15 * recordBlocks (countOf sheet)) 0 (placeOk sheet) (λ j l h. place-ok j (omega (arith, ap recordBlocks same-count))))
-      (ap (checkCode (localsOf sheet)) same-code ∙ code-accepted (localsOf sheet) code (subst (λ (x : ℕ). Body x code) (sym same-locals) body)))))
+      both (sym (both (accepted-whole 1 length-ok)
+      (both (accepted-none 2 (all-none (length sheet / blockBytes) 0 (λ b. blockOk (blockAt sheet b) b) (λ j l h. block-ok j (omega (arith, new-size)))))
+      (both (accepted-whole 3 (heading-is sheet new-heading))
+      (sym (accepted-none 4 (all-none (blockRecords * recordBlocks (countOf sheet)) 0 (placeOk sheet) (λ j l h. place-ok j (omega (arith, ap recordBlocks same-count))))))))))
+      (ap (checkCode (localsOf sheet)) same-code ∙ code-accepted (localsOf sheet) code (subst (λ (x : ℕ). Body x code) (sym same-locals) body))

@@ -1,35 +1,36 @@
 -- What checks 4 to 8 want of code, and that the code of an accepted sheet has it. Assumes nothing.
-use mathlib.Core.Path.{_≡_, refl, sym, ap, ap₂, _∙_, subst}
-use mathlib.Core.Bool.{Bool, true, cond, not}
+use mathlib.Core.Path.{_≡_, refl, sym, ap, _∙_, subst}
+use mathlib.Core.Bool.{true, not}
 use mathlib.Core.List.{List}
-use mathlib.Core.Option.{Option, none, some}
+use mathlib.Core.Option.{some}
 use Prim.Native.Nat.{ℕ, _+_, _-_, _*_, _≤_, _<_}
 use native.Mathlib.Omega.{arith}
-use borrow.Author.Tests.{lt-ltb}
-use lib.Dec.{ltb}
 use lib.ListN.{getD, drop, length, length-take, length-drop, List·getD-eq-default}
 use lib.Seq.{getD-take, getD-drop}
 use Rattle.stackless_bytecode.specs.declared.Bytecode.{Bytecode}
-use Rattle.base.specs.Sizes.{maxInstructions, blockRecords}
-use Rattle.base.specs.Refusals.{Answer, Accepted, refuse}
-use Rattle.base.specs.Lists.{gather, zeros, has}
-use Rattle.sheet.specs.Layout.{countOf, localsOf, recordBlocks, recordStart, decode, codeOf, instructionAt, recordAt}
+use Rattle.base.specs.Sizes.{maxInstructions, recordBytes, listPlaces}
+use Rattle.base.specs.Refusals.{Verdict, Accepted, _then_}
+use Rattle.base.specs.RefusalLaws.{then-goes, accepted-none, passed}
+use Rattle.base.specs.Lists.{gather, has}
+use Rattle.sheet.specs.Layout.{countOf, localsOf, recordStart, decode, codeOf, instructionAt, recordAt}
 use Rattle.stackless_bytecode.specs.Kinds.{nop, at, fallsThrough, branchDests, labelOf}
-use Rattle.stackless_bytecode.specs.Successors.{labelOffset}
-use Rattle.sheet.specs.Checks.{recordOk, placeOk, localsOk, fresh, namesOk, checkCode, checkSheet, fits}
-use Rattle.base.specs.ListLaws.{in-has, gather-in, getD-in, in-getD, getD-tab}
+use Rattle.stackless_bytecode.specs.Successors.{labelOffset, Unique}
+use Rattle.sheet.specs.Checks.{recordOk, localsOk, fresh, namesOk, checkForm, checkCode, checkSheet}
+use Rattle.sheet.specs.Shaped.{Shaped, code-at, record-inside}
+use Rattle.sheet.specs.FormLaws.{form-shaped}
+use Rattle.base.specs.ListLaws.{in-has, gather-in, getD-in, in-getD}
 use Rattle.base.specs.JoinLaws.{by-lt}
-use Rattle.stackless_bytecode.specs.SuccessorLaws.{Sound, Unique, offset-label}
+use Rattle.stackless_bytecode.specs.SuccessorLaws.{offset-label}
+use Rattle.stackless_bytecode.specs.Sound.{Sound}
 use Rattle.base.specs.SearchLaws.{all-none, none-all}
 use Rattle.sheet.specs.CheckLaws.{clear, Clear, code-length, code-sound}
 use Rattle.sheet_writer.specs.EncodeLaws.{Encodes, Small, small-take, small-drop}
-use native.Mathlib.Nat.{zero-add}
-use Rattle.sheet.specs.AcceptLaws.{all-by, fresh-unique, unique-fresh, Heading, is-heading}
-use Rattle.sheet.specs.AcceptedLaws.{Bytes}
+use Rattle.sheet.specs.AcceptLaws.{all-by, fresh-unique, unique-fresh, HeadingLayout, is-heading}
+use Rattle.base.specs.Bytes.{Bytes}
 
-pub accept : (num : ℕ) (found : Option ℕ) (rest : Answer) → found ≡ none → rest ≡ Accepted → refuse num found rest ≡ Accepted
-unfolding refuse
-accept num found rest f e = ap₂ (λ (x : Option ℕ) (y : Answer). refuse num x y) f e
+-- two checks accept
+pub both : {v w : Verdict} → Accepted ≡ v → w ≡ Accepted → (v then w) ≡ Accepted
+both {w = w} e f = then-goes w (sym e) ∙ f
 
 -- ---- what checks 4 to 8 want of code
 
@@ -52,10 +53,10 @@ names-ok code sound k h =
 pub code-accepted : (l : ℕ) (code : List Bytecode) → Body l code → checkCode l code ≡ Accepted
 unfolding checkCode
 code-accepted l code b =
-    accept 5 _ _ (all-none (length code) 0 (λ k. localsOk l (at code k)) (λ j i h. b .locals j (omega arith)))
-    (accept 6 _ _ (all-none (length code) 0 (fresh code) (λ j l h. unique-fresh code (b .unique) j (omega arith)))
-    (accept 7 _ _ (all-none (length code) 0 (λ k. namesOk (gather labelOf code) (at code k)) (λ j l h. names-ok code (b .sound) j (omega arith)))
-    (accept 8 _ _ (all-none 1 (length code - 1) (λ k. not (fallsThrough (at code k))) (λ j l h. let s : j ≡ length code - 1 = omega arith in ap not (ap (λ (x : ℕ). fallsThrough (at code x)) s ∙ b .sound .closed))) refl)))
+    both (accepted-none 5 (all-none (length code) 0 (λ k. localsOk l (at code k)) (λ j i h. b .locals j (omega arith))))
+    (both (accepted-none 6 (all-none (length code) 0 (fresh code) (λ j l h. unique-fresh code (b .unique) j (omega arith))))
+    (both (accepted-none 7 (all-none (length code) 0 (λ k. namesOk (gather labelOf code) (at code k)) (λ j l h. names-ok code (b .sound) j (omega arith))))
+    (sym (accepted-none 8 (all-none 1 (length code - 1) (λ k. not (fallsThrough (at code k))) (λ j l h. let s : j ≡ length code - 1 = omega arith in ap not (ap (λ (x : ℕ). fallsThrough (at code x)) s ∙ b .sound .closed)))))))
 
 -- ---- the code of an accepted sheet
 
@@ -69,22 +70,21 @@ module _ (s : List ℕ) (bytes : Bytes s) (e : checkSheet s ≡ Accepted) where
   checks : Clear s
   checks = clear s e
 
-  pub heading : Heading s
+  pub heading : HeadingLayout s
   heading = is-heading s (checks .three)
 
-  code-at : (k : ℕ) → k < length (codeOf s) → at (codeOf s) k ≡ decode (recordAt s k)
-  unfolding codeOf instructionAt
-  code-at k h = getD-tab (countOf s) 0 k (instructionAt s) nop (omega (arith, code-length s)) ∙ ap (instructionAt s) (zero-add k)
+  pub shaped : Shaped s (countOf s)
+  unfolding checkSheet
+  shaped = form-shaped s (countOf s) refl (passed (checkForm s) (checkCode (localsOf s) (codeOf s)) e .first)
 
-  part-length : (k : ℕ) → k < length (codeOf s) → length (recordAt s k) ≡ 32
-  part-length k h =
-      length-take 32 (drop (recordStart k) s) ∙ (unfold recordBlocks in omega (arith, length-drop (recordStart k) s, heading .size, code-length s))
+  pub part-length : (k : ℕ) → k < countOf s → length (recordAt s k) ≡ recordBytes
+  part-length k h = length-take recordBytes (drop (recordStart k) s) ∙ (omega (arith, length-drop (recordStart k) s, record-inside shaped k h))
 
-  part-byte : (k i : ℕ) → i < 32 → getD (recordAt s k) i 0 < 256
-  part-byte k i h = subst (λ (x : ℕ). x < 256) (sym (getD-take 32 (drop (recordStart k) s) i 0 h ∙ getD-drop (recordStart k) s i 0)) (bytes .each (recordStart k + i))
+  part-byte : (k i : ℕ) → i < recordBytes → getD (recordAt s k) i 0 < 256
+  part-byte k i h = subst (λ (x : ℕ). x < 256) (sym (getD-take recordBytes (drop (recordStart k) s) i 0 h ∙ getD-drop (recordStart k) s i 0)) (bytes .each (recordStart k + i))
 
-  record-encodes : (k : ℕ) → k < length (codeOf s) → Encodes (decode (recordAt s k))
-  unfolding decode
+  record-encodes : (k : ℕ) → k < countOf s → Encodes (instructionAt s k)
+  unfolding instructionAt decode
   record-encodes k h =
       let p = recordAt s k in
       let small : Small p = small-by p (λ i g. part-byte k i (omega (arith, part-length k h))) in
@@ -95,31 +95,22 @@ module _ (s : List ℕ) (bytes : Bytes s) (e : checkSheet s ≡ Accepted) where
         nsrc = part-byte k 9 (omega arith);
         flag = part-byte k 10 (omega arith);
         abort = part-byte k 11 (omega arith);
-        dsts-small = small-take 8 (drop 12 p) (small-drop 12 p small);
-        srcs-small = small-take 8 (drop 20 p) (small-drop 20 p small);
+        dsts-small = small-take listPlaces (drop 12 p) (small-drop 12 p small);
+        srcs-small = small-take listPlaces (drop (12 + listPlaces) p) (small-drop (12 + listPlaces) p small);
         attr = omega (arith, part-byte k 2 (omega arith), part-byte k 3 (omega arith));
         one = omega (arith, part-byte k 4 (omega arith), part-byte k 5 (omega arith));
         two = omega (arith, part-byte k 6 (omega arith), part-byte k 7 (omega arith));
-        payload = omega (arith, part-byte k 28 (omega arith), part-byte k 29 (omega arith), part-byte k 30 (omega arith), part-byte k 31 (omega arith));
-        dsts = length-take 8 (drop 12 p) ∙ (omega (arith, length-drop 12 p, part-length k h));
-        srcs = length-take 8 (drop 20 p) ∙ (omega (arith, length-drop 20 p, part-length k h));
+        payload = let at = 12 + 2 * listPlaces in omega (arith, part-byte k at (omega arith), part-byte k (at + 1) (omega arith), part-byte k (at + 2) (omega arith), part-byte k (at + 3) (omega arith));
+        dsts = length-take listPlaces (drop 12 p) ∙ (omega (arith, length-drop 12 p, part-length k h));
+        srcs = length-take listPlaces (drop (12 + listPlaces) p) ∙ (omega (arith, length-drop (12 + listPlaces) p, part-length k h));
       }
-
-  record-fits : (k : ℕ) → k < length (codeOf s) → recordOk (decode (recordAt s k)) ≡ true
-  record-fits k h = sym (ap (λ (b : Bool). cond b (recordOk (decode (recordAt s k))) (zeros (recordAt s k))) (lt-ltb k (countOf s) (omega (arith, code-length s)))) ∙ placed
-    where
-      within : k < blockRecords * recordBlocks (countOf s)
-      within = unfold recordBlocks in omega (arith, code-length s)
-
-      placed : cond (ltb k (countOf s)) (recordOk (decode (recordAt s k))) (zeros (recordAt s k)) ≡ true
-      placed = unfold placeOk in none-all (blockRecords * recordBlocks (countOf s)) 0 (placeOk s) (checks .four) k (omega arith) (omega (arith, within))
 
   pub accepted-body : Body (localsOf s) (codeOf s)
   accepted-body = record {
     some = omega (arith, code-length s, heading .some);
     few = omega (arith, code-length s, heading .few);
-    fits = λ k h. ap recordOk (code-at k h) ∙ record-fits k h;
-    encodes = λ k h. subst Encodes (sym (code-at k h)) (record-encodes k h);
+    fits = λ k h. let l : k < countOf s = omega (arith, code-length s) in ap recordOk (code-at shaped k l) ∙ shaped .each k l;
+    encodes = λ k h. let l : k < countOf s = omega (arith, code-length s) in subst Encodes (sym (code-at shaped k l)) (record-encodes k l);
     locals = λ k h. none-all (length (codeOf s)) 0 (λ j. localsOk (localsOf s) (at (codeOf s) j)) (checks .five) k (omega arith) (omega arith);
     unique = fresh-unique (codeOf s) (λ k h. none-all (length (codeOf s)) 0 (fresh (codeOf s)) (checks .six) k (omega arith) (omega arith));
     sound = code-sound s e;

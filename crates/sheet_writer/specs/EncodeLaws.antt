@@ -9,16 +9,18 @@ use native.Mathlib.Omega.{arith}
 use lib.ListN.{getD, take, drop, length, replicate, length-append, length-take, length-drop, length-replicate, List·getD-append}
 use lib.Seq.{take-at, drop-at, drop-append-add, drop-drop, take-take, getD-append-add, getD-take, getD-drop, ext-getD}
 use Rattle.stackless_bytecode.specs.declared.Bytecode.{Bytecode}
+use Rattle.base.specs.Sizes.{blockBytes, listPlaces, recordBytes, recordsFrom, blockRecords, maxNumber}
 use Rattle.base.specs.Lists.{tab, sum, gather, zeros}
 use Rattle.base.specs.Bytes.{bytesOf, part, u16At, u32At}
 use Rattle.sheet.specs.Layout.{blockAt, checkOf, countOf, recordStart, decode, instructionAt, codeOf, padded, encode, blockOf, recordBlocks, bodyOf, sheetOf}
 use Rattle.stackless_bytecode.specs.Kinds.{nop, at}
+use Rattle.sheet_writer.specs.Written.{bodyBytes, gapBytes}
 use Rattle.base.specs.PartLaws.{front-part, gather-length, chunk, beyond, zeros-replicate, zeros-take, zeros-drop}
 use Rattle.base.specs.ListLaws.{in-take, in-drop, in-gather, getD-tab, length-tab}
 
 -- ---- numbers
 
-two-bytes : (x : ℕ) → x < 65536 → x % 256 + 256 * (x / 256 % 256) ≡ x
+two-bytes : (x : ℕ) → x ≤ maxNumber → x % 256 + 256 * (x / 256 % 256) ≡ x
 two-bytes x h = omega arith
 
 digits : (x q1 q2 q3 : ℕ) → q1 ≡ x / 256 → q2 ≡ q1 / 256 → q3 ≡ q2 / 256 → q3 < 256 → x % 256 + 256 * (q1 % 256) + 65536 * (q2 % 256) + 16777216 * (q3 % 256) ≡ x
@@ -48,44 +50,45 @@ pub record Encodes (r : Bytecode) : Type 0 where
   pub abort : r .abort < 256
   pub dsts-small : Small (r .dsts)
   pub srcs-small : Small (r .srcs)
-  pub attr : r .attr < 65536
-  pub one : r .one < 65536
-  pub two : r .two < 65536
+  pub attr : r .attr ≤ maxNumber
+  pub one : r .one ≤ maxNumber
+  pub two : r .two ≤ maxNumber
   pub payload : r .payload < 4294967296
-  pub dsts : length (r .dsts) ≡ 8
-  pub srcs : length (r .srcs) ≡ 8
+  pub dsts : length (r .dsts) ≡ listPlaces
+  pub srcs : length (r .srcs) ≡ listPlaces
 
-eight-is : (xs : List ℕ) → length xs ≡ 8 → padded xs ≡ xs
+-- a list that has all its places is not padded
+pub padded-full : (xs : List ℕ) → length xs ≡ listPlaces → padded xs ≡ xs
 unfolding padded
-eight-is xs h = take-at xs (replicate 8 0) 8 h
+padded-full xs h = take-at xs (replicate listPlaces 0) listPlaces h
 
--- behind two lists of eight
-behind-eights : (ds ss bs : List ℕ) → length ds ≡ 8 → length ss ≡ 8 → (i : ℕ) → getD (ds ++ ss ++ bs) (16 + i) 0 ≡ getD bs i 0
-behind-eights ds ss bs hd hs i =
-    let a : 16 + i ≡ length ds + (8 + i) = omega arith in
-    let b : 8 + i ≡ length ss + i = omega arith in
-    ap₂ (λ (l : List ℕ) (x : ℕ). getD l x 0) (append-assoc ds ss bs) a ∙ getD-append-add ds (ss ++ bs) (8 + i) 0
+-- behind both lists
+behind-lists : (ds ss bs : List ℕ) → length ds ≡ listPlaces → length ss ≡ listPlaces → (i : ℕ) → getD (ds ++ ss ++ bs) (2 * listPlaces + i) 0 ≡ getD bs i 0
+behind-lists ds ss bs hd hs i =
+    let a : 2 * listPlaces + i ≡ length ds + (listPlaces + i) = omega arith in
+    let b : listPlaces + i ≡ length ss + i = omega arith in
+    ap₂ (λ (l : List ℕ) (x : ℕ). getD l x 0) (append-assoc ds ss bs) a ∙ getD-append-add ds (ss ++ bs) (listPlaces + i) 0
     ∙ ap (λ (x : ℕ). getD (ss ++ bs) x 0) b ∙ getD-append-add ss bs i 0
 
-pub eight-size : (xs : List ℕ) → length (padded xs) ≡ 8
+pub padded-size : (xs : List ℕ) → length (padded xs) ≡ listPlaces
 unfolding padded
-eight-size xs =
-    length-take 8 (xs ++ replicate 8 0) ∙ (omega (arith, length-append xs (replicate 8 0), length-replicate {A = ℕ} 8 0))
+padded-size xs =
+    length-take listPlaces (xs ++ replicate listPlaces 0) ∙ (omega (arith, length-append xs (replicate listPlaces 0), length-replicate {A = ℕ} listPlaces 0))
 
 -- the payload's bytes
 abbrev fourOf : ℕ → List ℕ
 fourOf x = x % 256 ∷ x / 256 % 256 ∷ x / 256 / 256 % 256 ∷ x / 256 / 256 / 256 % 256 ∷ []
 
-read-dsts : (ds ss bs : List ℕ) → length ds ≡ 8 → take 8 (padded ds ++ padded ss ++ bs) ≡ ds
-read-dsts ds ss bs h = ap (take 8) (append-assoc (padded ds) (padded ss) bs) ∙ take-at (padded ds) (padded ss ++ bs) 8 (eight-size ds) ∙ eight-is ds h
+read-dsts : (ds ss bs : List ℕ) → length ds ≡ listPlaces → take listPlaces (padded ds ++ padded ss ++ bs) ≡ ds
+read-dsts ds ss bs h = ap (take listPlaces) (append-assoc (padded ds) (padded ss) bs) ∙ take-at (padded ds) (padded ss ++ bs) listPlaces (padded-size ds) ∙ padded-full ds h
 
-read-srcs : (ds ss bs : List ℕ) → length ss ≡ 8 → take 8 (drop 8 (padded ds ++ padded ss ++ bs)) ≡ ss
+read-srcs : (ds ss bs : List ℕ) → length ss ≡ listPlaces → take listPlaces (drop listPlaces (padded ds ++ padded ss ++ bs)) ≡ ss
 read-srcs ds ss bs h =
-    ap (λ (l : List ℕ). take 8 (drop 8 l)) (append-assoc (padded ds) (padded ss) bs) ∙ ap (take 8) (drop-at (padded ds) (padded ss ++ bs) 8 (eight-size ds)) ∙ take-at (padded ss) bs 8 (eight-size ss) ∙ eight-is ss h
+    ap (λ (l : List ℕ). take listPlaces (drop listPlaces l)) (append-assoc (padded ds) (padded ss) bs) ∙ ap (take listPlaces) (drop-at (padded ds) (padded ss ++ bs) listPlaces (padded-size ds)) ∙ take-at (padded ss) bs listPlaces (padded-size ss) ∙ padded-full ss h
 
-read-payload : (ds ss : List ℕ) (x : ℕ) → x < 4294967296 → u32At (padded ds ++ padded ss ++ fourOf x) 16 ≡ x
+read-payload : (ds ss : List ℕ) (x : ℕ) → x < 4294967296 → u32At (padded ds ++ padded ss ++ fourOf x) (2 * listPlaces) ≡ x
 read-payload ds ss x h =
-    let d : (i : ℕ) → getD (padded ds ++ padded ss ++ fourOf x) (16 + i) 0 ≡ getD (fourOf x) i 0 = behind-eights (padded ds) (padded ss) (fourOf x) (eight-size ds) (eight-size ss) in
+    let d : (i : ℕ) → getD (padded ds ++ padded ss ++ fourOf x) (2 * listPlaces + i) 0 ≡ getD (fourOf x) i 0 = behind-lists (padded ds) (padded ss) (fourOf x) (padded-size ds) (padded-size ss) in
     omega (arith, d 0, d 1, d 2, d 3, four-bytes x h)
 
 pub record-again : (r : Bytecode) → Encodes r → decode (encode r) ≡ r
@@ -105,10 +108,10 @@ record-again r e = λ i. record {
   payload = read-payload (r .dsts) (r .srcs) (r .payload) (e .payload) i;
 }
 
-pub record-size : (r : Bytecode) → length (encode r) ≡ 32
+pub record-size : (r : Bytecode) → length (encode r) ≡ recordBytes
 unfolding encode bytesOf
 record-size r =
-    let all : length (padded (r .dsts) ++ padded (r .srcs) ++ fourOf (r .payload)) ≡ 20 = omega (arith, length-append (padded (r .dsts) ++ padded (r .srcs)) (fourOf (r .payload)), length-append (padded (r .dsts)) (padded (r .srcs)), eight-size (r .dsts), eight-size (r .srcs)) in
+    let all : length (padded (r .dsts) ++ padded (r .srcs) ++ fourOf (r .payload)) ≡ 2 * listPlaces + 4 = omega (arith, length-append (padded (r .dsts) ++ padded (r .srcs)) (fourOf (r .payload)), length-append (padded (r .dsts)) (padded (r .srcs)), padded-size (r .dsts), padded-size (r .srcs)) in
     ap (λ (x : ℕ). suc (suc (suc (suc (suc (suc (suc (suc (suc (suc (suc (suc x)))))))))))) all
 
 -- ---- a block
@@ -120,7 +123,7 @@ block-is : (b : ℕ) (body : List ℕ) → blockOf b body ≡ b % 256 ∷ b / 25
 unfolding blockOf bytesOf
 block-is b body = refl
 
-block-length : (b : ℕ) (body : List ℕ) → length body ≡ 508 → length (blockOf b body) ≡ 512
+block-length : (b : ℕ) (body : List ℕ) → length body ≡ blockBytes - 4 → length (blockOf b body) ≡ blockBytes
 block-length b body h = ap length (block-is b body) ∙ (omega arith)
 
 -- behind its number and check
@@ -128,58 +131,59 @@ block-body : (b : ℕ) (body : List ℕ) (m : ℕ) → drop (4 + m) (blockOf b b
 block-body b body m = sym (drop-drop m 4 (blockOf b body)) ∙ ap (λ (l : List ℕ). drop m (drop 4 l)) (block-is b body)
 
 -- its number and its check are right
-pub block-number : (b : ℕ) (body : List ℕ) → b < 65536 → u16At (blockOf b body) 0 ≡ b
+pub block-number : (b : ℕ) (body : List ℕ) → b ≤ maxNumber → u16At (blockOf b body) 0 ≡ b
 block-number b body h = ap (λ (l : List ℕ). u16At l 0) (block-is b body) ∙ two-bytes b h
 
 pub block-check : (b : ℕ) (body : List ℕ) → u16At (blockOf b body) 2 ≡ checkOf (blockOf b body)
 unfolding checkOf sum
 block-check b body =
+    let small : (sum (twoOf b) + sum body) % 65536 < 65536 = mod-lt (sum (twoOf b) + sum body) (omega arith) in
     ap (λ (l : List ℕ). u16At l 2) (block-is b body)
-    ∙ two-bytes ((sum (twoOf b) + sum body) % 65536) (mod-lt (sum (twoOf b) + sum body) (omega arith))
+    ∙ two-bytes ((sum (twoOf b) + sum body) % 65536) (omega arith)
     ∙ sym (ap (λ (l : List ℕ). (sum (take 2 l) + sum (drop 4 l)) % 65536) (block-is b body))
 
 -- ---- the records of a block
 
-body-length : (code : List Bytecode) (b : ℕ) → length (bodyOf code b) ≡ 508
+body-length : (code : List Bytecode) (b : ℕ) → length (bodyOf code b) ≡ blockBytes - 4
 unfolding bodyOf
 body-length code b =
-    let inner = gather encode (take 15 (drop (15 * b) code)) in
-    length-take 508 (replicate 28 0 ++ inner ++ replicate 480 0)
-    ∙ (omega (arith, length-append (replicate 28 0 ++ inner) (replicate 480 0), length-append (replicate 28 0) inner, length-replicate {A = ℕ} 28 0, length-replicate {A = ℕ} 480 0))
+    let inner = gather encode (take blockRecords (drop (blockRecords * b) code)) in
+    length-take (blockBytes - 4) (replicate gapBytes 0 ++ inner ++ replicate bodyBytes 0)
+    ∙ (omega (arith, length-append (replicate gapBytes 0 ++ inner) (replicate bodyBytes 0), length-append (replicate gapBytes 0) inner, length-replicate {A = ℕ} gapBytes 0, length-replicate {A = ℕ} bodyBytes 0))
 
--- the 32 bytes of place r of a block's body
-body-part : (code : List Bytecode) (b r : ℕ) → r < 15
-    → take 32 (drop (28 + 32 * r) (bodyOf code b)) ≡ take 32 (drop (32 * r) (gather encode (take 15 (drop (15 * b) code)) ++ replicate 480 0))
+-- the bytes of place r of a block's body
+body-part : (code : List Bytecode) (b r : ℕ) → r < blockRecords
+    → take recordBytes (drop (gapBytes + recordBytes * r) (bodyOf code b)) ≡ take recordBytes (drop (recordBytes * r) (gather encode (take blockRecords (drop (blockRecords * b) code)) ++ replicate bodyBytes 0))
 unfolding bodyOf
 body-part code b r h =
-    let inner = gather encode (take 15 (drop (15 * b) code)) in
-    front-part 0 (28 + 32 * r) 32 508 (replicate 28 0 ++ inner ++ replicate 480 0) (omega arith)
-    ∙ ap (λ (l : List ℕ). take 32 (drop (28 + 32 * r) l)) (append-assoc (replicate 28 0) inner (replicate 480 0))
-    ∙ ap (take 32) (drop-append-add (replicate 28 0) (inner ++ replicate 480 0) (32 * r))
+    let inner = gather encode (take blockRecords (drop (blockRecords * b) code)) in
+    front-part 0 (gapBytes + recordBytes * r) recordBytes (blockBytes - 4) (replicate gapBytes 0 ++ inner ++ replicate bodyBytes 0) (omega arith)
+    ∙ ap (λ (l : List ℕ). take recordBytes (drop (gapBytes + recordBytes * r) l)) (append-assoc (replicate gapBytes 0) inner (replicate bodyBytes 0))
+    ∙ ap (take recordBytes) (drop-append-add (replicate gapBytes 0) (inner ++ replicate bodyBytes 0) (recordBytes * r))
 
-body-start : (code : List Bytecode) (b : ℕ) → zeros (take 28 (bodyOf code b)) ≡ true
+body-start : (code : List Bytecode) (b : ℕ) → zeros (take gapBytes (bodyOf code b)) ≡ true
 unfolding bodyOf
 body-start code b =
-    let inner = gather encode (take 15 (drop (15 * b) code)) in
-    ap zeros (take-take 28 508 (replicate 28 0 ++ inner ++ replicate 480 0) (omega arith)
-    ∙ ap (take 28) (append-assoc (replicate 28 0) inner (replicate 480 0))
-    ∙ take-at (replicate 28 0) (inner ++ replicate 480 0) 28 refl)
-    ∙ zeros-replicate 28
+    let inner = gather encode (take blockRecords (drop (blockRecords * b) code)) in
+    ap zeros (take-take gapBytes (blockBytes - 4) (replicate gapBytes 0 ++ inner ++ replicate bodyBytes 0) (omega arith)
+    ∙ ap (take gapBytes) (append-assoc (replicate gapBytes 0) inner (replicate bodyBytes 0))
+    ∙ take-at (replicate gapBytes 0) (inner ++ replicate bodyBytes 0) gapBytes refl)
+    ∙ zeros-replicate gapBytes
 
 -- ---- the sheet
 
-module _ (rest : List ℕ) (code : List Bytecode) (full : length rest ≡ 506) where
+module _ (rest : List ℕ) (code : List Bytecode) (full : length rest ≡ blockBytes - 6) where
   unfoldable pub heading : List ℕ
   heading = blockOf 0 (bytesOf 2 (length code) ++ rest)
 
   unfoldable pub later : ℕ → List ℕ
   later b = blockOf (1 + b) (bodyOf code b)
 
-  heading-length : length heading ≡ 512
+  heading-length : length heading ≡ blockBytes
   unfolding heading bytesOf
   heading-length = block-length 0 (twoOf (length code) ++ rest) (omega arith)
 
-  later-length : (b : ℕ) → length (later b) ≡ 512
+  later-length : (b : ℕ) → length (later b) ≡ blockBytes
   unfolding later
   later-length b = block-length (1 + b) (bodyOf code b) (body-length code b)
 
@@ -187,80 +191,80 @@ module _ (rest : List ℕ) (code : List Bytecode) (full : length rest ≡ 506) w
   unfolding sheetOf heading later
   sheet-is = refl
 
-  pub sheet-length : length (sheetOf rest code) ≡ 512 * (1 + recordBlocks (length code))
+  pub sheet-length : length (sheetOf rest code) ≡ blockBytes * (1 + recordBlocks (length code))
   sheet-length =
       ap length sheet-is
-      ∙ (omega (arith, length-append heading (gather later (tab (recordBlocks (length code)) 0 (λ b. b))), heading-length, gather-length 512 later later-length (tab (recordBlocks (length code)) 0 (λ b. b)), length-tab (recordBlocks (length code)) 0 (λ (b : ℕ). b)))
+      ∙ (omega (arith, length-append heading (gather later (tab (recordBlocks (length code)) 0 (λ b. b))), heading-length, gather-length blockBytes later later-length (tab (recordBlocks (length code)) 0 (λ b. b)), length-tab (recordBlocks (length code)) 0 (λ (b : ℕ). b)))
 
   pub first-block : blockAt (sheetOf rest code) 0 ≡ heading
   unfolding blockAt
-  first-block = ap (λ (l : List ℕ). take 512 (drop (512 * 0) l)) sheet-is ∙ take-at heading _ 512 heading-length
+  first-block = ap (λ (l : List ℕ). take blockBytes (drop (blockBytes * 0) l)) sheet-is ∙ take-at heading _ blockBytes heading-length
 
   pub later-block : (b : ℕ) → b < recordBlocks (length code) → blockAt (sheetOf rest code) (1 + b) ≡ later b
   unfolding blockAt
   later-block b h =
       let bs = tab (recordBlocks (length code)) 0 (λ (x : ℕ). x) in
-      let place : 512 * (1 + b) ≡ length heading + 512 * b = omega (arith, heading-length) in
-      ap₂ (λ (n : ℕ) (l : List ℕ). take 512 (drop n l)) place sheet-is
-      ∙ ap (take 512) (drop-append-add heading (gather later bs) (512 * b) ∙ ap (drop (512 * b)) (sym (append-nil (gather later bs))))
-      ∙ chunk 512 later later-length bs [] b 0 (omega (arith, length-tab (recordBlocks (length code)) 0 (λ (x : ℕ). x)))
+      let place : blockBytes * (1 + b) ≡ length heading + blockBytes * b = omega (arith, heading-length) in
+      ap₂ (λ (n : ℕ) (l : List ℕ). take blockBytes (drop n l)) place sheet-is
+      ∙ ap (take blockBytes) (drop-append-add heading (gather later bs) (blockBytes * b) ∙ ap (drop (blockBytes * b)) (sym (append-nil (gather later bs))))
+      ∙ chunk blockBytes later later-length bs [] b 0 (omega (arith, length-tab (recordBlocks (length code)) 0 (λ (x : ℕ). x)))
       ∙ ap later (getD-tab (recordBlocks (length code)) 0 b (λ x. x) 0 h ∙ zero-add b)
 
-  later-is : (b : ℕ) → b < recordBlocks (length code) → take 512 (drop (512 * (1 + b)) (sheetOf rest code)) ≡ blockOf (1 + b) (bodyOf code b)
+  later-is : (b : ℕ) → b < recordBlocks (length code) → take blockBytes (drop (blockBytes * (1 + b)) (sheetOf rest code)) ≡ blockOf (1 + b) (bodyOf code b)
   later-is b h = unfold blockAt later in later-block b h
 
-  -- the 32 bytes of place k
-  place-part : (k : ℕ) → k / 15 < recordBlocks (length code)
-      → part (sheetOf rest code) (recordStart k) 32 ≡ take 32 (drop (32 * (k % 15)) (gather encode (take 15 (drop (15 * (k / 15)) code)) ++ replicate 480 0))
+  -- the bytes of place k
+  place-part : (k : ℕ) → k / blockRecords < recordBlocks (length code)
+      → part (sheetOf rest code) (recordStart k) recordBytes ≡ take recordBytes (drop (recordBytes * (k % blockRecords)) (gather encode (take blockRecords (drop (blockRecords * (k / blockRecords)) code)) ++ replicate bodyBytes 0))
   place-part k h =
       let s = sheetOf rest code in
-      let a = 512 * (1 + k / 15) in
-      let b = 32 + 32 * (k % 15) in
+      let a = blockBytes * (1 + k / blockRecords) in
+      let b = recordsFrom + recordBytes * (k % blockRecords) in
       let sum-is : recordStart k ≡ a + b = omega arith in
-      let r : k % 15 < 15 = mod-lt k (omega arith) in
-      let inside : b ≡ 4 + (28 + 32 * (k % 15)) = omega arith in
-      ap (λ (n : ℕ). take 32 (drop n s)) sum-is
-      ∙ ap (take 32) (sym (drop-drop b a s))
-      ∙ sym (front-part 0 b 32 512 (drop a s) (omega arith))
-      ∙ ap (λ (l : List ℕ). take 32 (drop b l)) (later-is (k / 15) h)
-      ∙ ap (λ (n : ℕ). take 32 (drop n (blockOf (1 + k / 15) (bodyOf code (k / 15))))) inside
-      ∙ ap (take 32) (block-body (1 + k / 15) (bodyOf code (k / 15)) (28 + 32 * (k % 15)))
-      ∙ body-part code (k / 15) (k % 15) r
+      let r : k % blockRecords < blockRecords = mod-lt k (omega arith) in
+      let inside : b ≡ 4 + (gapBytes + recordBytes * (k % blockRecords)) = omega arith in
+      ap (λ (n : ℕ). take recordBytes (drop n s)) sum-is
+      ∙ ap (take recordBytes) (sym (drop-drop b a s))
+      ∙ sym (front-part 0 b recordBytes blockBytes (drop a s) (omega arith))
+      ∙ ap (λ (l : List ℕ). take recordBytes (drop b l)) (later-is (k / blockRecords) h)
+      ∙ ap (λ (n : ℕ). take recordBytes (drop n (blockOf (1 + k / blockRecords) (bodyOf code (k / blockRecords))))) inside
+      ∙ ap (take recordBytes) (block-body (1 + k / blockRecords) (bodyOf code (k / blockRecords)) (gapBytes + recordBytes * (k % blockRecords)))
+      ∙ body-part code (k / blockRecords) (k % blockRecords) r
 
-  pub record-part : (k : ℕ) → k < length code → part (sheetOf rest code) (recordStart k) 32 ≡ encode (at code k)
+  pub record-part : (k : ℕ) → k < length code → part (sheetOf rest code) (recordStart k) recordBytes ≡ encode (at code k)
   record-part k h =
-      let q = k / 15 in
-      let r = k % 15 in
-      let small : r < 15 = mod-lt k (omega arith) in
-      let whole : 15 * q + r ≡ k = omega arith in
-      let xs = take 15 (drop (15 * q) code) in
-      let within : r < length xs = omega (arith, length-take 15 (drop (15 * q) code), length-drop (15 * q) code) in
+      let q = k / blockRecords in
+      let r = k % blockRecords in
+      let small : r < blockRecords = mod-lt k (omega arith) in
+      let whole : blockRecords * q + r ≡ k = omega arith in
+      let xs = take blockRecords (drop (blockRecords * q) code) in
+      let within : r < length xs = omega (arith, length-take blockRecords (drop (blockRecords * q) code), length-drop (blockRecords * q) code) in
       place-part k (unfold recordBlocks in omega arith)
-      ∙ chunk 32 encode record-size xs (replicate 480 0) r nop within
-      ∙ ap encode (getD-take 15 (drop (15 * q) code) r nop small ∙ getD-drop (15 * q) code r nop ∙ ap (at code) whole)
+      ∙ chunk recordBytes encode record-size xs (replicate bodyBytes 0) r nop within
+      ∙ ap encode (getD-take blockRecords (drop (blockRecords * q) code) r nop small ∙ getD-drop (blockRecords * q) code r nop ∙ ap (at code) whole)
 
   -- past the instructions the places are zero
-  pub zero-part : (k : ℕ) → length code ≤ k → k < 15 * recordBlocks (length code) → zeros (part (sheetOf rest code) (recordStart k) 32) ≡ true
+  pub zero-part : (k : ℕ) → length code ≤ k → k < blockRecords * recordBlocks (length code) → zeros (part (sheetOf rest code) (recordStart k) recordBytes) ≡ true
   zero-part k h l =
-      let q = k / 15 in
-      let r = k % 15 in
-      let xs = take 15 (drop (15 * q) code) in
-      let past : length xs ≤ r = omega (arith, length-take 15 (drop (15 * q) code), length-drop (15 * q) code) in
-      ap zeros (place-part k (omega arith) ∙ ap (take 32) (beyond 32 encode record-size xs (replicate 480 0) r past))
-      ∙ zeros-take 32 _ (zeros-drop (32 * r - 32 * length xs) (replicate 480 0) (zeros-replicate 480))
+      let q = k / blockRecords in
+      let r = k % blockRecords in
+      let xs = take blockRecords (drop (blockRecords * q) code) in
+      let past : length xs ≤ r = omega (arith, length-take blockRecords (drop (blockRecords * q) code), length-drop (blockRecords * q) code) in
+      ap zeros (place-part k (omega arith) ∙ ap (take recordBytes) (beyond recordBytes encode record-size xs (replicate bodyBytes 0) r past))
+      ∙ zeros-take recordBytes _ (zeros-drop (recordBytes * r - recordBytes * length xs) (replicate bodyBytes 0) (zeros-replicate bodyBytes))
 
-  pub count-again : length code < 65536 → countOf (sheetOf rest code) ≡ length code
+  pub count-again : length code ≤ maxNumber → countOf (sheetOf rest code) ≡ length code
   unfolding countOf sheetOf blockOf bytesOf
   count-again h = two-bytes (length code) h
 
   -- the rest of the heading
-  pub rest-again : (i : ℕ) → i < 506 → getD (sheetOf rest code) (6 + i) 0 ≡ getD rest i 0
+  pub rest-again : (i : ℕ) → i < blockBytes - 6 → getD (sheetOf rest code) (6 + i) 0 ≡ getD rest i 0
   rest-again i h = sym (getD-drop 6 (sheetOf rest code) i 0) ∙ ap (λ (l : List ℕ). getD l i 0) behind-six ∙ List·getD-append rest (gather later (tab (recordBlocks (length code)) 0 (λ b. b))) 0 i (omega arith)
     where
       behind-six : drop 6 (sheetOf rest code) ≡ rest ++ gather later (tab (recordBlocks (length code)) 0 (λ b. b))
       behind-six = unfold sheetOf blockOf bytesOf later in refl
 
-  pub code-again : length code < 65536 → ((k : ℕ) → k < length code → Encodes (at code k)) → codeOf (sheetOf rest code) ≡ code
+  pub code-again : length code ≤ maxNumber → ((k : ℕ) → k < length code → Encodes (at code k)) → codeOf (sheetOf rest code) ≡ code
   unfolding codeOf
   code-again h enc =
       ext-getD nop (tab (countOf (sheetOf rest code)) 0 (instructionAt (sheetOf rest code))) code (length-tab (countOf (sheetOf rest code)) 0 (instructionAt (sheetOf rest code)) ∙ count-again h)
@@ -279,7 +283,7 @@ module _ (rest : List ℕ) (code : List Bytecode) (full : length rest ≡ 506) w
   unfolding heading
   heading-check = block-check 0 (bytesOf 2 (length code) ++ rest)
 
-  pub later-number : (b : ℕ) → 1 + b < 65536 → u16At (later b) 0 ≡ 1 + b
+  pub later-number : (b : ℕ) → 1 + b ≤ maxNumber → u16At (later b) 0 ≡ 1 + b
   unfolding later
   later-number b h = block-number (1 + b) (bodyOf code b) h
 
@@ -287,9 +291,9 @@ module _ (rest : List ℕ) (code : List Bytecode) (full : length rest ≡ 506) w
   unfolding later
   later-check b = block-check (1 + b) (bodyOf code b)
 
-  pub later-zeros : (b : ℕ) → zeros (part (later b) 4 28) ≡ true
+  pub later-zeros : (b : ℕ) → zeros (part (later b) 4 gapBytes) ≡ true
   unfolding later
-  later-zeros b = ap (λ (l : List ℕ). zeros (take 28 l)) (block-body (1 + b) (bodyOf code b) 0) ∙ body-start code b
+  later-zeros b = ap (λ (l : List ℕ). zeros (take gapBytes l)) (block-body (1 + b) (bodyOf code b) 0) ∙ body-start code b
 
 -- ---- a written sheet is a list of bytes
 
@@ -324,16 +328,16 @@ unfolding bytesOf
 small-four x =
     small-cons (mod-lt x (omega arith)) (small-cons (mod-lt (x / 256) (omega arith)) (small-cons (mod-lt (x / 256 / 256) (omega arith)) (small-cons (mod-lt (x / 256 / 256 / 256) (omega arith)) small-nil)))
 
-small-eight : (xs : List ℕ) → Small xs → Small (padded xs)
+small-padded : (xs : List ℕ) → Small xs → Small (padded xs)
 unfolding padded
-small-eight xs s = small-take 8 (xs ++ replicate 8 0) (small-append s (small-zeros 8))
+small-padded xs s = small-take listPlaces (xs ++ replicate listPlaces 0) (small-append s (small-zeros listPlaces))
 
 pub record-small : (r : Bytecode) → Encodes r → Small (encode r)
 unfolding encode
 record-small r e =
     small-append (small-append (small-append (small-append (small-cons (e .kind) (small-cons (e .sub) (small-append (small-append (small-two (r .attr)) (small-two (r .one))) (small-two (r .two)))))
     (small-cons (e .ndst) (small-cons (e .nsrc) (small-cons (e .flag) (small-cons (e .abort) small-nil)))))
-    (small-eight (r .dsts) (e .dsts-small))) (small-eight (r .srcs) (e .srcs-small))) (small-four (r .payload))
+    (small-padded (r .dsts) (e .dsts-small))) (small-padded (r .srcs) (e .srcs-small))) (small-four (r .payload))
 
 small-block : (b : ℕ) (body : List ℕ) → Small body → Small (blockOf b body)
 unfolding blockOf
@@ -344,4 +348,4 @@ unfolding sheetOf bodyOf
 sheet-small rest code s enc =
     small-append (small-block 0 (bytesOf 2 (length code) ++ rest) (small-append (small-two (length code)) s))
     (small-gather (λ b. blockOf (1 + b) (bodyOf code b)) (tab (recordBlocks (length code)) 0 (λ b. b))
-    (λ b i. small-block (1 + b) (bodyOf code b) (small-take 508 _ (small-append (small-append (small-zeros 28) (small-gather encode (take 15 (drop (15 * b) code)) (λ r j. record-small r (enc r (in-drop (15 * b) code (in-take 15 (drop (15 * b) code) j)))))) (small-zeros 480)))))
+    (λ b i. small-block (1 + b) (bodyOf code b) (small-take (blockBytes - 4) _ (small-append (small-append (small-zeros gapBytes) (small-gather encode (take blockRecords (drop (blockRecords * b) code)) (λ r j. record-small r (enc r (in-drop (blockRecords * b) code (in-take blockRecords (drop (blockRecords * b) code) j)))))) (small-zeros bodyBytes)))))

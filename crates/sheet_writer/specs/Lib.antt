@@ -1,3 +1,5 @@
+-- What the inner contracts say.
+pub mod Written
 -- Laws.
 pub mod EncodeLaws
 pub mod WriterLaws

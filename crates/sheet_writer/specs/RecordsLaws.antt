@@ -1,6 +1,6 @@
 -- The records of some code, one behind the other, at the front of a slice. Assumes nothing.
 use mathlib.Core.Path.{_≡_, refl, sym, ap, ap₂, _∙_}
-use mathlib.Core.List.{List, [], _∷_, _++_, append-assoc, append-nil}
+use mathlib.Core.List.{List, [], _∷_, _++_, append-nil}
 use Prim.Native.Nat.{ℕ, _+_, _-_, _*_, _≤_}
 use native.Mathlib.Omega.{arith}
 use lib.ListN.{length, take, drop, length-append, length-drop, drop-of-length-le}
@@ -11,16 +11,9 @@ use Rattle.base.specs.PartLaws.{gather-length}
 use Rattle.base.specs.WriteLaws.{part-more, length-kept}
 use Rattle.stackless_bytecode.specs.declared.Bytecode.{Bytecode}
 use Rattle.sheet.specs.Layout.{encode}
+use Rattle.base.specs.GrowLaws.{gather-append}
+use Rattle.sheet_writer.specs.Written.{placed}
 use Rattle.sheet_writer.specs.EncodeLaws.{record-size}
-
--- a slice with the records of this code at its front
-abbrev pub placed : List Bytecode → List ℕ → List ℕ
-placed code d = gather encode code ++ drop (recordBytes * length code) d
-
-pub gather-append : {A B : Type 0} (f : A → List B) (xs ys : List A) → gather f (xs ++ ys) ≡ gather f xs ++ gather f ys
-unfolding gather
-gather-append f [] ys = refl
-gather-append {A} {B} f (x ∷ xs) ys = ap (λ (l : List B). f x ++ l) (gather-append f xs ys) ∙ sym (append-assoc (f x) (gather f xs) (gather f ys))
 
 pub records-length : (code : List Bytecode) → length (gather encode code) ≡ recordBytes * length code
 records-length code = gather-length recordBytes encode record-size code

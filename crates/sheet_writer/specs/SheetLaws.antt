@@ -2,7 +2,7 @@
 use mathlib.Core.Path.{_≡_, refl, sym, ap, ap₂, _∙_}
 use mathlib.Core.List.{List, [], _∷_, _++_, append-assoc, append-nil}
 use Prim.Native.Nat.{ℕ, zero, suc, _+_, _-_, _*_, _%_, _≤_, _<_}
-use native.Mathlib.Nat.{zero-add, add-zero, suc-add, add-suc}
+use native.Mathlib.Nat.{zero-add}
 use native.Mathlib.Numerals.{add-one}
 use native.Mathlib.Omega.{arith}
 use lib.ListN.{getD, length, take, drop, set, replicate, length-append, length-take, length-drop, length-replicate, List·getD-append, drop-of-length-le, take-append-drop}
@@ -10,13 +10,15 @@ use lib.Seq.{take-at, drop-at, take-all, drop-drop, getD-take, getD-drop, ext-ge
 use Rattle.base.specs.Sizes.{blockBytes, recordsFrom, blockRecords, recordBytes, maxInstructions, maxBlocks}
 use Rattle.base.specs.Lists.{tab, sum, gather, joins}
 use Rattle.base.specs.Bytes.{bytesOf, part}
-use Rattle.base.specs.ListLaws.{copies-at}
+use Rattle.base.specs.ListLaws.{copies-at, tab-snoc}
 use Rattle.base.specs.JoinLaws.{by-lt, getD-behind}
 use Rattle.base.specs.WriteLaws.{part-more, length-kept, wrote, wrote-more, wrote-all}
 use Rattle.stackless_bytecode.specs.declared.Bytecode.{Bytecode}
 use Rattle.sheet.specs.Layout.{headingRest, encode, recordBlocks, blockOf, bodyOf, sheetOf}
+use Rattle.base.specs.GrowLaws.{gather-append}
+use Rattle.sheet_writer.specs.Written.{placed, bodyBytes, gapBytes, laterOf, Blocks, Holds}
 use Rattle.sheet_writer.specs.EncodeLaws.{sheet-length}
-use Rattle.sheet_writer.specs.RecordsLaws.{placed, records-length, placed-length, gather-append, tail-is}
+use Rattle.sheet_writer.specs.RecordsLaws.{records-length, placed-length, tail-is}
 
 -- ---- a copy of as many bytes
 
@@ -30,7 +32,7 @@ copy-all from d out i l h size e =
 
 -- ---- a block
 
--- a block of 512 bytes whose bytes from 4 on are in place: its number is put, then its check
+-- a block whose bytes from 4 on are in place: its number is put, then its check
 pub sealed : (b c : ℕ) (d one two : List ℕ) → length d ≡ blockBytes → one ≡ bytesOf 2 b → c ≡ (sum (take 2 (one ++ drop 2 d)) + sum (take (blockBytes - 4) (drop 4 (one ++ drop 2 d)))) % 65536 → two ≡ bytesOf 2 c
     → take 2 (one ++ drop 2 d) ++ (two ++ drop 2 (drop 2 (one ++ drop 2 d))) ≡ blockOf b (drop 4 d)
 unfolding blockOf
@@ -47,14 +49,6 @@ sealed b c d one two size e1 ec e2 =
     ∙ sym (append-assoc (bytesOf 2 b) (bytesOf 2 ((sum (bytesOf 2 b) + sum (drop 4 d)) % 65536)) (drop 4 d))
 
 -- ---- the records of a block, out of the records of all code
-
--- the bytes of a block's records
-abbrev pub bodyBytes : ℕ
-bodyBytes = blockBytes - recordsFrom
-
--- the zeros before them
-abbrev pub gapBytes : ℕ
-gapBytes = recordsFrom - 4
 
 module _ (code : List Bytecode) (size b : ℕ) (room : bodyBytes * b + bodyBytes ≤ size) (some : blockRecords * b ≤ length code) where
   -- the code from block b on: its own, and what comes behind; and the zeros behind all code
@@ -159,10 +153,6 @@ later-parts d gap records size long =
 
 -- ---- all later blocks
 
--- block 1 + b, with the records that stand in `flat`
-unfoldable pub laterOf : List ℕ → ℕ → List ℕ
-laterOf flat b = blockOf (1 + b) (replicate gapBytes 0 ++ part flat (bodyBytes * b) bodyBytes)
-
 block-long : (b : ℕ) (body : List ℕ) → length body ≡ blockBytes - 4 → length (blockOf b body) ≡ blockBytes
 unfolding blockOf bytesOf
 block-long b body h = omega arith
@@ -178,11 +168,6 @@ unfolding laterOf
 later-by flat b new e =
     let span : bodyBytes * b + bodyBytes - bodyBytes * b ≡ bodyBytes = omega arith in
     e ∙ ap (λ (x : ℕ). blockOf (1 + b) (replicate gapBytes 0 ++ take x (drop (bodyBytes * b) flat))) span
-
--- b of them are written
-pub record Blocks (flat d : List ℕ) (b : ℕ) (out : List ℕ) : Type 0 where
-  pub is : out ≡ joins b (laterOf flat) ++ drop (blockBytes * b) d
-  pub long : length (joins b (laterOf flat)) ≡ blockBytes * b
 
 pub blocks-none : (flat d : List ℕ) → Blocks flat d 0 d
 unfolding joins
@@ -206,36 +191,22 @@ blocks-more flat d b out new h e w = record {
     next : joins (b + 1) (laterOf flat) ≡ joins b (laterOf flat) ++ laterOf flat b
     next = ap (λ (j : ℕ). joins j (laterOf flat)) (add-one b) ∙ (unfold joins in refl)
 
-pub blocks-length : {flat d : List ℕ} {b : ℕ} {out : List ℕ} → Blocks flat d b out → blockBytes * b ≤ length d → length out ≡ length d
-blocks-length {flat} {d} {b} w h = ap length (w .is) ∙ length-kept (joins b (laterOf flat)) d (blockBytes * b) (w .long) h
-
 -- ---- the whole sheet
-
-tab-last : (n k : ℕ) → tab (suc n) k (λ b. b) ≡ tab n k (λ b. b) ++ ((k + n) ∷ [])
-unfolding tab
-tab-last zero k = ap (λ (x : ℕ). x ∷ []) (sym (add-zero k))
-tab-last (suc n) k = ap (λ (l : List ℕ). k ∷ l) (tab-last n (suc k) ∙ ap (λ (x : ℕ). tab n (suc k) (λ b. b) ++ (x ∷ [])) (suc-add k n ∙ sym (add-suc k n)))
 
 joins-gather : (n : ℕ) (f : ℕ → List ℕ) → joins n f ≡ gather f (tab n 0 (λ b. b))
 joins-gather zero f = unfold joins gather tab in refl
 joins-gather (suc n) f =
     let next : joins (suc n) f ≡ joins n f ++ f n = unfold joins in refl in
     next ∙ ap (λ (x : List ℕ). x ++ f n) (joins-gather n f)
-    ∙ sym (ap (gather f) (tab-last n 0) ∙ gather-append f (tab n 0 (λ b. b)) ((0 + n) ∷ []) ∙ ap (λ (x : List ℕ). gather f (tab n 0 (λ b. b)) ++ x) (one (0 + n) ∙ ap f (zero-add n)))
+    ∙ sym (ap (gather f) (tab-snoc n 0 (λ b. b)) ∙ gather-append f (tab n 0 (λ b. b)) ((0 + n) ∷ []) ∙ ap (λ (x : List ℕ). gather f (tab n 0 (λ b. b)) ++ x) (one (0 + n) ∙ ap f (zero-add n)))
   where
     one : (x : ℕ) → gather f (x ∷ []) ≡ f x
     one x = unfold gather in append-nil (f x)
 
-joins-agree : (n : ℕ) (f g : ℕ → List ℕ) → ((k : ℕ) → k < n → f k ≡ g k) → joins n f ≡ joins n g
+pub joins-agree : {A : Type 0} (n : ℕ) (f g : ℕ → List A) → ((k : ℕ) → k < n → f k ≡ g k) → joins n f ≡ joins n g
 unfolding joins
 joins-agree zero f g h = refl
 joins-agree (suc n) f g h = ap₂ _++_ (joins-agree n f g (λ k l. h k (omega arith))) (h n (omega arith))
-
--- the records of `code` stand in `flat`, and zeros behind them to the end of the last block
-pub record Holds (flat : List ℕ) (code : List Bytecode) : Type 0 where
-  pub size : ℕ
-  pub is : flat ≡ placed code (replicate size 0)
-  pub room : bodyBytes * recordBlocks (length code) ≤ size
 
 -- a front is written, and then the rest of the slice, from a on, is lent and comes back
 behind : (a m : ℕ) (d first later more : List ℕ) → length first ≡ a → later ≡ more ++ drop m (take (length (first ++ drop a d) - a) (drop a (first ++ drop a d)))

@@ -1,27 +1,16 @@
 -- Writing a record: its four parts, one behind the other. Assumes nothing.
 use mathlib.Core.Path.{_≡_, refl, sym, ap, ap₂, _∙_}
-use mathlib.Core.List.{List, [], _∷_, _++_, append-nil}
-use Prim.Native.Nat.{ℕ, _+_, _*_, _/_, _%_}
+use mathlib.Core.List.{List, _++_, append-nil}
+use Prim.Native.Nat.{ℕ, _+_, _*_}
 use native.Mathlib.Omega.{arith}
-use lib.ListN.{length, take, drop, replicate, length-append, drop-of-length-le}
-use lib.Seq.{take-at}
+use lib.ListN.{length, take, drop, length-append, drop-of-length-le}
 use Rattle.base.specs.Sizes.{listPlaces, recordBytes}
 use Rattle.base.specs.Bytes.{bytesOf}
 use Rattle.base.specs.WriteLaws.{part-more}
 use Rattle.stackless_bytecode.specs.declared.Bytecode.{Bytecode}
 use Rattle.sheet.specs.Layout.{encode, padded}
-use Rattle.sheet_writer.specs.EncodeLaws.{eight-size}
-
--- the bytes of a record before its lists
-abbrev pub headOf : Bytecode → List ℕ
-headOf r =
-    r .kind ∷ r .sub ∷ r .attr % 256 ∷ r .attr / 256 % 256 ∷ r .one % 256 ∷ r .one / 256 % 256 ∷ r .two % 256 ∷ r .two / 256 % 256
-    ∷ r .ndst ∷ r .nsrc ∷ r .flag ∷ r .abort ∷ []
-
--- a list that has all its places is not padded
-pub padded-full : (xs : List ℕ) → length xs ≡ listPlaces → padded xs ≡ xs
-unfolding padded
-padded-full xs h = take-at xs (replicate listPlaces 0) listPlaces h
+use Rattle.sheet_writer.specs.Written.{headOf}
+use Rattle.sheet_writer.specs.EncodeLaws.{padded-size}
 
 -- a part of a list is put anew: k places from a on
 abbrev put : ℕ → ℕ → List ℕ → List ℕ → List ℕ
@@ -36,8 +25,8 @@ pub record-written : (r : Bytecode) (out h d s p : List ℕ) → length out ≡ 
     → put (12 + 2 * listPlaces) 4 (put (12 + listPlaces) listPlaces (put 12 listPlaces (h ++ drop 12 out) d) s) p ≡ encode r
 record-written r out h d s p size eh ed es ep =
     let lh : length h ≡ 12 = ap length eh in
-    let ld : length d ≡ listPlaces = ap length ed ∙ eight-size (r .dsts) in
-    let ls : length s ≡ listPlaces = ap length es ∙ eight-size (r .srcs) in
+    let ld : length d ≡ listPlaces = ap length ed ∙ padded-size (r .dsts) in
+    let ls : length s ≡ listPlaces = ap length es ∙ padded-size (r .srcs) in
     ap (λ (x : List ℕ). put (12 + 2 * listPlaces) 4 (put (12 + listPlaces) listPlaces x s) p) (part-more h d out 12 listPlaces lh)
     ∙ ap (λ (x : List ℕ). put (12 + 2 * listPlaces) 4 x p) (part-more (h ++ d) s out (12 + listPlaces) listPlaces (length-append h d ∙ (omega arith)))
     ∙ part-more (h ++ d ++ s) p out (12 + 2 * listPlaces) 4 (length-append (h ++ d) s ∙ (omega (arith, length-append h d)))

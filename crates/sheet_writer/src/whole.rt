@@ -7,7 +7,7 @@ ghost use Rattle.base.specs.Sizes.{blockBytes, maxBytes, maxBlocks, maxInstruct
 ghost use Rattle.base.specs.Bytes.{bytesOf};
 ghost use Rattle.stackless_bytecode.specs.declared.Bytecode.{Bytecode};
 ghost use Rattle.sheet.specs.Layout.{headingRest, blockOf, recordBlocks, sheetOf};
-ghost use Rattle.sheet_writer.specs.SheetLaws.{bodyBytes, gapBytes, Blocks, Holds};
+ghost use Rattle.sheet_writer.specs.Written.{bodyBytes, gapBytes, Blocks, Holds, SheetWritten};
 use crate::writer::put_u16;
 use base::BLOCK_BYTES;
 use base::RECORDS_FROM;
@@ -82,7 +82,7 @@ fn put_all_later(flat: &[u8], m: usize, out: &mut [u8])
 // The sheet with the heading of s and the n instructions whose records stand in `flat`; its length.
 pub fn write_sheet(s: &[u8], n: usize, flat: &[u8], out: &mut [u8]) -> u32
     requires { ⌜ (blockBytes ≤ length (now s)) × (n ≤ maxInstructions) × (bodyBytes * recordBlocks n ≤ length (now flat)) × (maxBytes ≤ length (now out)) ⌝ }
-    ensures { λ r. ⌜ ((code : List Bytecode) → n ≡ length code → Holds (now (flat .entry)) code → (r ≡ length (sheetOf (headingRest (now (s .entry))) code)) × (now (out .exit) ≡ sheetOf (headingRest (now (s .entry))) code ++ drop (length (sheetOf (headingRest (now (s .entry))) code)) (now (out .entry)))) ⌝ }
+    ensures { λ r. ⌜ ((code : List Bytecode) → n ≡ length code → Holds (now (flat .entry)) code → SheetWritten (sheetOf (headingRest (now (s .entry))) code) (now (out .entry)) r (now (out .exit))) ⌝ }
 {
     let m = record_blocks(n);
     put_heading(s, n, &mut out[0..BLOCK_BYTES]);

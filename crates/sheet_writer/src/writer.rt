@@ -4,7 +4,7 @@ ghost use lib.ListN.{length};
 ghost use Rattle.base.specs.Sizes.{listPlaces, recordBytes};
 ghost use Rattle.base.specs.Bytes.{bytesOf};
 ghost use Rattle.sheet.specs.Layout.{encode, padded};
-ghost use Rattle.sheet_writer.specs.WriterLaws.{headOf};
+ghost use Rattle.sheet_writer.specs.Written.{headOf};
 use base::LIST_PLACES;
 use base::RECORD_BYTES;
 use sheet::reader::DSTS_AT;

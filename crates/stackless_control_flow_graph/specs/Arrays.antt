@@ -1,4 +1,19 @@
 -- What the arrays hold that the blocks are worked out in. Assumes nothing.
+--
+--   array         indexed by                          holds
+--   targets       offset, two places each             the offsets of the labels that the instruction names
+--   goes          offset, two places each             its successors, noOffset filling up
+--   marks         offset                              1 where a block starts
+--   lowers        block, by offset                    its lower
+--   uppers        offset                              the upper of its block
+--   keys          offset                              the key of the block that starts there, 0 where none does
+--   lowerOfKey    key, less 2                         the lower of its block
+--   upperOfKey    key, less 2                         the upper of its block (Graph)
+--   keyOfOffset   offset                              the key of its block (Graph)
+--   slots         key, three places each              the keys that may follow it (Sorting)
+--   firstEdge     key                                 where its part of edges starts; the next key's start ends it (Sorting)
+--   edges         firstEdge                           what the key leads to backward (Sorting)
+--   table         block by offset, six places each    its row of the flow table
 use mathlib.Core.Path.{_≡_}
 use mathlib.Core.Bool.{Bool, true, cond}
 use mathlib.Core.List.{List, [], _∷_, _++_, map, List·Memᴰ}
@@ -6,8 +21,7 @@ use Prim.Native.Nat.{ℕ, suc, _+_, _*_, _≤_, _<_}
 use lib.Dec.{eqb}
 use lib.ListN.{getD, set, length, take, replicate}
 use Rattle.base.specs.Sizes.{maxInstructions, recordBytes}
-use Rattle.base.specs.Lists.{keep, has, over, firsts}
-use Rattle.base.specs.ListLaws.{Distinct}
+use Rattle.base.specs.Lists.{keep, has, over, firsts, Distinct}
 use Rattle.base.specs.Refusals.{Accepted}
 use Rattle.stackless_bytecode.specs.declared.Bytecode.{Bytecode}
 use Rattle.stackless_bytecode.specs.Kinds.{at, isExit, isBranch, fallsThrough, branchDests}
@@ -17,7 +31,7 @@ use Rattle.sheet.specs.Layout.{countOf, recordStart, instructionAt, codeOf}
 use Rattle.sheet.specs.Checks.{checkSheet}
 use Rattle.stackless_control_flow_graph.specs.declared.Three.{Three}
 use Rattle.stackless_control_flow_graph.specs.declared.Successors.{Successors}
-use Rattle.stackless_control_flow_graph.specs.Blocks.{starts, lowers, blocksOf, lowerOf, upperOf, keyed, keyOf}
+use Rattle.stackless_control_flow_graph.specs.Blocks.{starts, lowers, blocksOf, upperOf, keyed, keyOf}
 
 -- ---- the successors of an offset
 
@@ -56,7 +70,7 @@ pub record Within (n : ℕ) (xs : List ℕ) : Type 0 where
   pub each : (x : ℕ) → List·Memᴰ x xs → x < n
 
 -- the successors of each offset below k
-pub record Going (code : List Bytecode) (k : ℕ) (goes : List ℕ) : Type 0 where
+pub record SuccessorsTo (code : List Bytecode) (k : ℕ) (goes : List ℕ) : Type 0 where
   pub each : (j : ℕ) → j < k → succsIn goes j ≡ successors code j
 
 -- 1 where a block starts
@@ -71,18 +85,14 @@ markedIn marks n = keep n 0 (λ k. eqb (getD marks k 0) 1)
 pub record Uppers (code : List Bytecode) (uppers : List ℕ) : Type 0 where
   pub each : (k : ℕ) → k < length code → getD uppers k 0 ≡ upperOf code k
 
--- the lower of the block of each offset
-pub record Heads (code : List Bytecode) (heads : List ℕ) : Type 0 where
-  pub each : (k : ℕ) → k < length code → getD heads k 0 ≡ lowerOf code k
-
 -- these few more behind the first c: then there are r
 pub record Listing (out : List ℕ) (c : ℕ) (xs out′ : List ℕ) (r : ℕ) : Type 0 where
   pub front : take r out′ ≡ take c out ++ xs
   pub count : r ≡ c + length xs
 
 -- the arrays of all m blocks: the successors of each offset, the lowers by offset, and the upper of each offset
-pub record Cut (code : List Bytecode) (m : ℕ) (goes ls uppers : List ℕ) : Type 0 where
-  pub going : Going code (length code) goes
+pub record BlocksFound (code : List Bytecode) (m : ℕ) (goes ls uppers : List ℕ) : Type 0 where
+  pub going : SuccessorsTo code (length code) goes
   pub places : 2 * length code ≤ length goes
   pub front : take m ls ≡ lowers code
   pub count : m ≡ blocksOf code
@@ -95,12 +105,12 @@ pub record Cut (code : List Bytecode) (m : ℕ) (goes ls uppers : List ℕ) : Ty
 unfoldable pub keyIn : List ℕ → ℕ → ℕ
 keyIn ks o = cond (has o ks) (keyOf ks o) 0
 
--- the first c of `by` have keys, and each offset has its own in `key`
-pub record Keys (key by : List ℕ) (c : ℕ) : Type 0 where
-  pub each : (o : ℕ) → o < length key → getD key o 0 ≡ keyIn (take c by) o
-  pub once : Distinct (take c by)
-  pub within : Within (length key) (take c by)
-  pub inside : c ≤ length by
+-- the first c of `lowerOfKey` have keys, and each offset has its own in `keys`
+pub record Keys (keys lowerOfKey : List ℕ) (c : ℕ) : Type 0 where
+  pub each : (o : ℕ) → o < length keys → getD keys o 0 ≡ keyIn (take c lowerOfKey) o
+  pub once : Distinct (take c lowerOfKey)
+  pub within : Within (length keys) (take c lowerOfKey)
+  pub inside : c ≤ length lowerOfKey
 
 -- keys for these offsets, in their order, to those that have none yet
 pub record Gives (xs key by : List ℕ) (c : ℕ) (key′ by′ : List ℕ) (r : ℕ) : Type 0 where
@@ -118,7 +128,7 @@ unfoldable pub takers : List ℕ → List ℕ → ℕ → List ℕ
 takers goes uppers l = succsIn goes (getD uppers l 0) ++ (l ∷ [])
 
 -- the arrays have all that is asked of the m blocks, and its offsets are below n
-pub record Ready (goes ls uppers : List ℕ) (m n : ℕ) : Type 0 where
+pub record BlockArrays (goes ls uppers : List ℕ) (m n : ℕ) : Type 0 where
   pub blocks : m ≤ length ls
   pub lower : (b : ℕ) → b < m → getD ls b 0 < n
   pub upper : (b : ℕ) → b < m → getD ls b 0 < length uppers
@@ -126,10 +136,10 @@ pub record Ready (goes ls uppers : List ℕ) (m n : ℕ) : Type 0 where
   pub next : (b : ℕ) → b < m → Within n (succsIn goes (getD uppers (getD ls b 0) 0))
 
 -- the keys of all r blocks: the lowers in the order of their keys, and the key of each; nothing else has one
-pub record Numbered (code : List Bytecode) (key order : List ℕ) (r : ℕ) : Type 0 where
-  pub front : take r order ≡ keyed code
+pub record Numbered (code : List Bytecode) (keys lowerOfKey : List ℕ) (r : ℕ) : Type 0 where
+  pub front : take r lowerOfKey ≡ keyed code
   pub count : r ≡ blocksOf code
-  pub each : (o : ℕ) → o < length key → getD key o 0 ≡ keyIn (keyed code) o
+  pub each : (o : ℕ) → o < length keys → getD keys o 0 ≡ keyIn (keyed code) o
 
 -- ---- rows
 
@@ -150,7 +160,7 @@ abbrev pub rowIn : List ℕ → List ℕ → List ℕ → List ℕ → ℕ → L
 rowIn s goes uppers key l = rowFrom s goes key l (getD uppers l 0)
 
 -- offset k has a record in the sheet
-pub record Has (s : List ℕ) (k : ℕ) : Type 0 where
+pub record HasRecord (s : List ℕ) (k : ℕ) : Type 0 where
   pub ends : recordStart k + recordBytes ≤ length s
   pub few : k < 2 * maxInstructions
 
@@ -165,11 +175,11 @@ pub record Marking (code : List Bytecode) (k : ℕ) (marks : List ℕ) : Type 0 
 
 -- what a step of the pass over the instructions does to both arrays
 pub record Visits (code : List Bytecode) (k : ℕ) (goes marks goes′ marks′ : List ℕ) : Type 0 where
-  pub going : Going code k goes → Going code (k + 1) goes′
+  pub going : SuccessorsTo code k goes → SuccessorsTo code (k + 1) goes′
   pub marking : Marking code k marks → Marking code (k + 1) marks′
 
 -- ---- what the code is given: an accepted sheet of n instructions, and the offsets of the labels that it names
-pub record Given (s : List ℕ) (n : ℕ) (targets : List ℕ) : Type 0 where
+pub record CheckedSheet (s : List ℕ) (n : ℕ) (targets : List ℕ) : Type 0 where
   pub accepted : checkSheet s ≡ Accepted
   pub count : n ≡ countOf s
   pub resolved : Resolved (codeOf s) targets

@@ -8,12 +8,13 @@ use native.Mathlib.Omega.{arith}
 use lib.Dec.{eqb}
 use lib.ListN.{length}
 use Rattle.stackless_bytecode.specs.declared.Bytecode.{Bytecode}
-use Rattle.base.specs.Lists.{keep, gather, has}
+use Rattle.base.specs.Lists.{keep, gather, has, Distinct}
 use Rattle.stackless_bytecode.specs.Kinds.{at, isExit, isFlagged, isJump, isBranch, fallsThrough, branchDests}
 use Rattle.stackless_bytecode.specs.Successors.{labelOffset, ascending, successors}
 use Rattle.stackless_control_flow_graph.specs.Blocks.{targets, starts, lowers, lowerOf, upFrom, upperOf, keyed}
-use Rattle.stackless_bytecode.specs.SuccessorLaws.{Sound, in-ascending}
-use Rattle.base.specs.ListLaws.{or-false, by-test, by-eq, in-has, keep-in, in-keep, gather-in, in-gather, map-in, in-map, getD-in, firsts-in, in-firsts, firsts-distinct, Distinct}
+use Rattle.stackless_bytecode.specs.SuccessorLaws.{in-ascending}
+use Rattle.stackless_bytecode.specs.Sound.{Sound}
+use Rattle.base.specs.ListLaws.{or-false, by-test, by-eq, in-has, keep-in, in-keep, gather-in, in-gather, map-in, in-map, getD-in, firsts-in, in-firsts, firsts-distinct}
 
 -- a block ends at k
 unfoldable pub Last : List Bytecode → ℕ → Type 0
@@ -196,4 +197,4 @@ module _ (code : List Bytecode) where
 
   pub keyed-distinct : Distinct (keyed code)
   unfolding keyed
-  keyed-distinct = firsts-distinct [] _ Distinct.none
+  keyed-distinct = firsts-distinct [] _ Distinct.empty

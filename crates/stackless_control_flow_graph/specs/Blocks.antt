@@ -3,8 +3,9 @@ use Prim.Native.Nat.{ℕ, zero, suc, _-_, _*_}
 use mathlib.Core.Bool.{Bool, true, false, cond, _||_}
 use mathlib.Core.List.{List, [], _∷_, _++_, map}
 use lib.ListN.{length, take, replicate}
+use Rattle.base.specs.Sizes.{rowNumbers}
 use Rattle.base.specs.Lists.{keep, gather, has, place, firsts}
-use Rattle.base.specs.Refusals.{Reply, Done, reply}
+use Rattle.base.specs.Refusals.{Reply, Done, _then_, lends, reply}
 use Rattle.stackless_bytecode.specs.declared.Bytecode.{Bytecode}
 use Rattle.stackless_bytecode.specs.Kinds.{at, isExit, isBranch, branchDests}
 use Rattle.stackless_bytecode.specs.Successors.{labelOffset, successors}
@@ -74,4 +75,4 @@ flowTable code = let ks = keyed code in gather (row code ks) (lowers code)
 unfoldable pub flowReply : List ℕ → ℕ → Reply
 flowReply s lent =
     let code = codeOf s in
-    reply (checkSheet s) lent (6 * blocksOf code) (Done (blocksOf code) (flowTable code))
+    reply (checkSheet s then lends lent (rowNumbers * blocksOf code)) (Done (blocksOf code) (flowTable code))

@@ -1,16 +1,16 @@
 -- The call flow on an accepted sheet. Assumes nothing.
-use mathlib.Core.Path.{_≡_, sym, ap, _∙_}
+use mathlib.Core.Path.{_≡_}
 use mathlib.Core.Bool.{cond}
 use mathlib.Core.List.{List, [], _∷_, _++_, map}
 use Prim.Native.Nat.{ℕ, _*_, _<_, _≤_}
 use native.Mathlib.Omega.{arith}
-use lib.ListN.{getD, length, take, drop, replicate, length-append}
+use lib.ListN.{getD, length, take, replicate, length-append}
 use lib.Seq.{length-take-le}
-use Rattle.base.specs.Sizes.{maxInstructions}
+use Rattle.base.specs.Sizes.{maxInstructions, rowNumbers}
 use Rattle.base.specs.Bytes.{u16At}
 use Rattle.base.specs.Lists.{gather}
-use Rattle.base.specs.Refusals.{Reply, No, Done, Accepted, Refused, resultOf, left}
-use Rattle.base.specs.ReplyLaws.{reply-refused, reply-short, reply-done}
+use Rattle.base.specs.Refusals.{No, Done, Accepted, Refused, lends}
+use Rattle.base.specs.ReplyLaws.{call-refused, call-short, call-done}
 use Rattle.base.specs.PartLaws.{gather-length}
 use Rattle.stackless_bytecode.specs.declared.Bytecode.{Bytecode}
 use Rattle.stackless_bytecode.specs.Kinds.{at, isExit}
@@ -21,9 +21,9 @@ use Rattle.sheet.specs.Checks.{checkSheet}
 use Rattle.sheet.specs.CheckLaws.{code-sound}
 use Rattle.stackless_control_flow_graph.specs.Blocks.{lowers, blocksOf, upperOf, keyed, keyOf, succKeys, row, flowTable, flowReply}
 use Rattle.stackless_control_flow_graph.specs.BlockLaws.{upper-lt}
-use Rattle.stackless_control_flow_graph.specs.Arrays.{Cut, Gives, takers, Ready, rowIn, Has, Given}
+use Rattle.stackless_control_flow_graph.specs.Arrays.{BlocksFound, Gives, takers, BlockArrays, rowIn, HasRecord, CheckedSheet}
 use Rattle.base.specs.GrowLaws.{below-few}
-use Rattle.stackless_control_flow_graph.specs.GivenLaws.{accepted-shaped, accepted-few, accepted-at, accepted-has}
+use Rattle.stackless_control_flow_graph.specs.CheckedSheetLaws.{accepted-shaped, accepted-few, accepted-at, accepted-has}
 use Rattle.stackless_control_flow_graph.specs.FlowLaws.{in-lowers, lowers-distinct, block-start, block-upper, cut-ready, cut-numbered, cut-rows}
 
 -- no more blocks than instructions
@@ -33,11 +33,11 @@ blocks-few code = below-few (length code) (lowers-distinct code) (λ o i. in-low
 
 -- ---- the arrays of the blocks of an accepted sheet
 
-module _ (s : List ℕ) (accepted : checkSheet s ≡ Accepted) (m : ℕ) (goes ls uppers : List ℕ) (cut : Cut (codeOf s) m goes ls uppers) where
-  pub fill-ready : (n : ℕ) → n ≡ 1024 → Ready goes ls uppers m n
+module _ (s : List ℕ) (accepted : checkSheet s ≡ Accepted) (m : ℕ) (goes ls uppers : List ℕ) (cut : BlocksFound (codeOf s) m goes ls uppers) where
+  pub fill-ready : (n : ℕ) → n ≡ 1024 → BlockArrays goes ls uppers m n
   fill-ready n e = cut-ready (codeOf s) (code-sound s accepted) m goes ls uppers cut n (omega (arith, accepted-few s accepted))
 
-  pub fill-has : (b : ℕ) → b < m → Has s (getD uppers (getD ls b 0) 0)
+  pub fill-has : (b : ℕ) → b < m → HasRecord s (getD uppers (getD ls b 0) 0)
   fill-has b h =
       let at = block-start (codeOf s) (code-sound s accepted) m goes ls uppers cut b h in
       accepted-has s accepted (getD uppers (getD ls b 0) 0) (omega (arith, block-upper (codeOf s) (code-sound s accepted) m goes ls uppers cut (getD ls b 0) at, upper-lt (codeOf s) (getD ls b 0) (at .inside)))
@@ -50,48 +50,34 @@ module _ (s : List ℕ) (accepted : checkSheet s ≡ Accepted) (m : ℕ) (goes l
 
 -- ---- what the call answers
 
-pub table-length : (code : List Bytecode) → length (flowTable code) ≡ 6 * blocksOf code
-unfolding flowTable blocksOf row
-table-length code = gather-length 6 (row code (keyed code)) (λ l. omega (arith, keys-three code (keyed code) (upperOf code l))) (lowers code)
+pub row-length : (code : List Bytecode) (l : ℕ) → length (row code (keyed code) l) ≡ rowNumbers
+unfolding row
+row-length code l = omega (arith, keys-three code (keyed code) (upperOf code l))
   where
     keys-three : (c : List Bytecode) (ks : List ℕ) (u : ℕ) → length (succKeys c ks u) ≡ 3
     keys-three c ks u =
         unfold succKeys in length-take-le 3 (map (keyOf ks) (successors c u) ++ cond (isExit (at c u)) (1 ∷ []) [] ++ replicate 3 0)
         (omega (arith, length-append (map (keyOf ks) (successors c u) ++ cond (isExit (at c u)) (1 ∷ []) []) (replicate 3 0)))
 
+pub table-length : (code : List Bytecode) → length (flowTable code) ≡ rowNumbers * blocksOf code
+unfolding flowTable blocksOf
+table-length code = gather-length rowNumbers (row code (keyed code)) (row-length code) (lowers code)
+
 module _ (s : List ℕ) (lent : ℕ) where
-  pub flow-refused : (num place : ℕ) → checkSheet s ≡ Refused num place → flowReply s lent ≡ No num place
+  pub flow-refused : {num place : ℕ} → checkSheet s ≡ Refused num place → flowReply s lent ≡ No num place
   unfolding flowReply
-  flow-refused num place e = reply-refused lent (6 * blocksOf (codeOf s)) (Done (blocksOf (codeOf s)) (flowTable (codeOf s))) e
+  flow-refused e = call-refused (lends lent (rowNumbers * blocksOf (codeOf s))) (Done (blocksOf (codeOf s)) (flowTable (codeOf s))) e
 
-  pub flow-short : checkSheet s ≡ Accepted → lent < 6 * blocksOf (codeOf s) → flowReply s lent ≡ No 9 0
+  pub flow-short : checkSheet s ≡ Accepted → lent < rowNumbers * blocksOf (codeOf s) → flowReply s lent ≡ No 9 0
   unfolding flowReply
-  flow-short e h = reply-short (Done (blocksOf (codeOf s)) (flowTable (codeOf s))) e h
+  flow-short e h = call-short (Done (blocksOf (codeOf s)) (flowTable (codeOf s))) e h
 
-  pub flow-done : checkSheet s ≡ Accepted → 6 * blocksOf (codeOf s) ≤ lent → flowReply s lent ≡ Done (blocksOf (codeOf s)) (flowTable (codeOf s))
+  pub flow-done : checkSheet s ≡ Accepted → rowNumbers * blocksOf (codeOf s) ≤ lent → flowReply s lent ≡ Done (blocksOf (codeOf s)) (flowTable (codeOf s))
   unfolding flowReply
-  flow-done e h = reply-done (Done (blocksOf (codeOf s)) (flowTable (codeOf s))) e h
-
--- as result and output
-
-pub no-result : (p : Reply) (num place : ℕ) → p ≡ No num place → record { number = num; value = place } ≡ resultOf p
-unfolding resultOf
-no-result p num place e = sym (ap resultOf e)
-
-pub no-left : (p : Reply) (num place : ℕ) (d : List ℕ) → p ≡ No num place → d ≡ left p d
-unfolding left
-no-left p num place d e = sym (ap (λ (q : Reply). left q d) e)
-
-pub done-result : (p : Reply) (m b : ℕ) (xs : List ℕ) → m ≡ b → p ≡ Done b xs → record { number = 0; value = m } ≡ resultOf p
-unfolding resultOf
-done-result p m b xs q e = ap (λ (x : ℕ). record { number = 0; value = x }) q ∙ sym (ap resultOf e)
-
-pub done-left : (p : Reply) (d d′ xs : List ℕ) (m b : ℕ) → length xs ≡ 6 * m → p ≡ Done b xs → d′ ≡ xs ++ drop (6 * m) d → d′ ≡ left p d
-unfolding left
-done-left p d d′ xs m b size e q = q ∙ ap (λ (n : ℕ). xs ++ drop n d) (sym size) ∙ sym (ap (λ (r : Reply). left r d) e)
+  flow-done e h = call-done (Done (blocksOf (codeOf s)) (flowTable (codeOf s))) e h
 
 -- ---- the checks accept, and have found where the labels stand
 
-pub into-given : (s : List ℕ) (n : ℕ) (targets : List ℕ) → checkSheet s ≡ Accepted → n ≡ u16At s 4 → Resolved (codeOf s) targets → length targets ≡ 2 * maxInstructions → Given s n targets
+pub into-checked : (s : List ℕ) (n : ℕ) (targets : List ℕ) → checkSheet s ≡ Accepted → n ≡ u16At s 4 → Resolved (codeOf s) targets → length targets ≡ 2 * maxInstructions → CheckedSheet s n targets
 unfolding countOf
-into-given s n targets e c r size = record { accepted = e; count = c; resolved = r; slots = omega (arith, accepted-shaped s e .few) }
+into-checked s n targets e c r size = record { accepted = e; count = c; resolved = r; slots = omega (arith, accepted-shaped s e .few) }

@@ -7,17 +7,17 @@ use native.Mathlib.Nat.{le-antisymm}
 use native.Mathlib.Omega.{arith}
 use lib.ListN.{getD, length, take, replicate, length-take}
 use lib.Seq.{getD-take}
-use Rattle.base.specs.Lists.{gather, has, firsts}
-use Rattle.base.specs.ListLaws.{by-test, keep-in, in-keep, getD-in, has-in, in-has, place-lt, Distinct}
+use Rattle.base.specs.Lists.{gather, has, firsts, Distinct}
+use Rattle.base.specs.ListLaws.{by-test, keep-in, in-keep, getD-in, has-in, in-has, place-lt}
 use Rattle.base.specs.JoinLaws.{by-lt}
 use Rattle.stackless_bytecode.specs.declared.Bytecode.{Bytecode}
 use Rattle.stackless_bytecode.specs.Kinds.{at, isExit}
 use Rattle.stackless_bytecode.specs.Successors.{successors}
-use Rattle.stackless_bytecode.specs.SuccessorLaws.{Sound}
+use Rattle.stackless_bytecode.specs.Sound.{Sound}
 use Rattle.sheet.specs.Layout.{instructionAt}
 use Rattle.stackless_control_flow_graph.specs.Blocks.{starts, lowers, blocksOf, upperOf, keyed, keyOf, succKeys, row, flowTable}
 use Rattle.stackless_control_flow_graph.specs.BlockLaws.{Start, succs-start, upper-lt, upper-last, keyed-in, in-keyed, keyed-distinct}
-use Rattle.stackless_control_flow_graph.specs.Arrays.{succsIn, Within, Cut, keyIn, Gives, takers, Ready, Numbered, succKeysIn, rowFrom, rowIn}
+use Rattle.stackless_control_flow_graph.specs.Arrays.{succsIn, Within, BlocksFound, keyIn, Gives, takers, BlockArrays, Numbered, succKeysIn, rowFrom, rowIn}
 use Rattle.base.specs.GrowLaws.{getD-past, gather-agree, map-agree, shorter, keep-distinct}
 use Rattle.stackless_control_flow_graph.specs.StartLaws.{succs-within}
 use Rattle.stackless_control_flow_graph.specs.KeyLaws.{key-none, key-some}
@@ -45,7 +45,7 @@ keys-blocks code sound =
 
 -- ---- the arrays
 
-module _ (code : List Bytecode) (sound : Sound code) (m : ℕ) (goes ls uppers : List ℕ) (cut : Cut code m goes ls uppers) where
+module _ (code : List Bytecode) (sound : Sound code) (m : ℕ) (goes ls uppers : List ℕ) (cut : BlocksFound code m goes ls uppers) where
   blocks : m ≡ length (lowers code)
   blocks = unfold blocksOf in cut .count
 
@@ -70,7 +70,7 @@ module _ (code : List Bytecode) (sound : Sound code) (m : ℕ) (goes ls uppers :
     each = λ x i. omega (arith, succs-within code sound (upperOf code o) (upper-lt code o (s .inside)) .each x (subst (λ (l : List ℕ). List·Memᴰ x l) (block-next o s) i));
   }
 
-  pub cut-ready : (n : ℕ) → length code ≤ n → Ready goes ls uppers m n
+  pub cut-ready : (n : ℕ) → length code ≤ n → BlockArrays goes ls uppers m n
   cut-ready n most = record {
     blocks = long;
     lower = λ b h. omega (arith, block-start b h .inside);
@@ -115,7 +115,7 @@ module _ (code : List Bytecode) (sound : Sound code) (m : ℕ) (goes ls uppers :
         let e : getD order i 0 ≡ getD (keyed code) i 0 = sym (getD-take r order i 0 h) ∙ ap (λ (l : List ℕ). getD l i 0) (numbered .front) in
         subst (λ (x : ℕ). Start code x) (sym e) (in-keyed code sound (getD (keyed code) i 0) (getD-in (keyed code) i 0 (omega (arith, numbered .count, keys-blocks code sound))))
 
-    pub order-ready : (n : ℕ) → length code ≤ n → Ready goes order uppers r n
+    pub order-ready : (n : ℕ) → length code ≤ n → BlockArrays goes order uppers r n
     order-ready n room = record {
       blocks = order-long;
       lower = λ b h. omega (arith, order-start b h .inside);

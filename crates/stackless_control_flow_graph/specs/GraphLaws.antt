@@ -11,7 +11,7 @@ use Rattle.base.specs.ListLaws.{by-test, by-eq, map-in, gather-in, getD-in, pla
 use Rattle.stackless_bytecode.specs.declared.Bytecode.{Bytecode}
 use Rattle.stackless_bytecode.specs.Kinds.{nop, at, isBranch, branchDests}
 use Rattle.stackless_bytecode.specs.Successors.{labelOffset, successors}
-use Rattle.stackless_bytecode.specs.SuccessorLaws.{Sound}
+use Rattle.stackless_bytecode.specs.Sound.{Sound}
 use Rattle.stackless_control_flow_graph.specs.Blocks.{targets, starts, lowers, blocksOf, lowerOf, upperOf, keyed, keyOf}
 use Rattle.stackless_control_flow_graph.specs.BlockLaws.{Last, Start, succs-start, target-starts, upper-le, upper-lt, upper-last, upper-stop, lower-start, lower-next, lower-starts, lower-le, upper-lower, keyed-in, in-keyed, keyed-distinct}
 use Rattle.stackless_control_flow_graph.specs.FlowLaws.{lowers-in, keys-blocks}

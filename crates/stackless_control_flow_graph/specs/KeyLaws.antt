@@ -10,8 +10,8 @@ use borrow.Author.Tests.{eq-eqb, ne-eqb}
 use lib.Dec.{eqb}
 use lib.ListN.{getD, set, length, take, length-set}
 use lib.Seq.{length-take-le, take-suc-set, getD-set-same, getD-set-other}
-use Rattle.base.specs.Lists.{has, place, firsts, gather}
-use Rattle.base.specs.ListLaws.{by-test, by-eq, in-has, firsts-distinct, Distinct}
+use Rattle.base.specs.Lists.{has, place, firsts, gather, Distinct}
+use Rattle.base.specs.ListLaws.{by-test, by-eq, in-has, firsts-distinct}
 use Rattle.stackless_control_flow_graph.specs.Blocks.{keyOf}
 use Rattle.stackless_control_flow_graph.specs.Arrays.{noOffset, pairOf, succsIn, Within, keyIn, Keys, Gives, Near, takers}
 use Rattle.base.specs.GrowLaws.{has-append, place-front, place-end, firsts-append, firsts-old, firsts-new, below-few, gather-more}
@@ -26,7 +26,7 @@ pub key-some : (ks : List ℕ) (o : ℕ) → has o ks ≡ true → keyIn ks o �
 unfolding keyIn
 key-some ks o e = ap (λ (b : Bool). cond b (keyOf ks o) 0) e
 
-key-pos : (ks : List ℕ) (o : ℕ) → keyOf ks o ≢ 0
+pub key-pos : (ks : List ℕ) (o : ℕ) → keyOf ks o ≢ 0
 unfolding keyOf
 key-pos ks o e = omega arith
 
@@ -155,7 +155,7 @@ module _ (n : ℕ) (goes : List ℕ) (l u x y : ℕ) (w : Near n goes l u) (s : 
 pub keys-begin : (key by goes uppers ls : List ℕ) → ((o : ℕ) → getD key o 0 ≡ 0) → Gives (gather (takers goes uppers) (take 0 ls)) key by 0 key by 0
 unfolding gather firsts
 keys-begin key by goes uppers ls z = record {
-  keys = record { each = λ o h. z o ∙ sym (key-none [] o (unfold has in refl)); once = Distinct.none; within = record { each = λ x i. absurd (List·Memᴰ·not-nil i) }; inside = omega arith };
+  keys = record { each = λ o h. z o ∙ sym (key-none [] o (unfold has in refl)); once = Distinct.empty; within = record { each = λ x i. absurd (List·Memᴰ·not-nil i) }; inside = omega arith };
   front = refl;
 }
 

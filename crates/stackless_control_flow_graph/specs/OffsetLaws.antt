@@ -3,7 +3,7 @@ use mathlib.Core.Path.{_≡_, refl, sym, ap, _∙_, subst}
 use mathlib.Core.Logic.{inl, inr}
 use mathlib.Core.Bool.{Bool, true, false, cond}
 use mathlib.Core.List.{List, [], _∷_, _++_, append-nil}
-use Prim.Native.Nat.{ℕ, zero, suc, _+_, _-_, _≤_, _<_}
+use Prim.Native.Nat.{ℕ, suc, _+_, _-_, _≤_, _<_}
 use native.Mathlib.Nat.{zero-add}
 use native.Mathlib.Numerals.{add-one}
 use native.Mathlib.Omega.{arith}
@@ -13,9 +13,9 @@ use lib.Seq.{take-suc-set, getD-set-same, getD-set-other}
 use Rattle.base.specs.Lists.{keep}
 use Rattle.base.specs.ListLaws.{by-eq}
 use Rattle.stackless_bytecode.specs.declared.Bytecode.{Bytecode}
-use Rattle.stackless_control_flow_graph.specs.Blocks.{starts, lowers, lowerOf, upperOf}
-use Rattle.stackless_control_flow_graph.specs.BlockLaws.{Last, upper-stop, upper-next, lower-start, lower-next}
-use Rattle.stackless_control_flow_graph.specs.Arrays.{markedIn, Marked, Uppers, Heads, Listing}
+use Rattle.stackless_control_flow_graph.specs.Blocks.{starts, lowers, upperOf}
+use Rattle.stackless_control_flow_graph.specs.BlockLaws.{Last, upper-stop, upper-next}
+use Rattle.stackless_control_flow_graph.specs.Arrays.{markedIn, Marked, Uppers, Listing}
 use Rattle.base.specs.GrowLaws.{keep-snoc, keep-agree}
 
 -- ---- a list at the front of an array
@@ -116,31 +116,3 @@ uppers-turn code marks uppers k end w end′ m some h room v e u =
 
 pub uppers-end : (code : List Bytecode) (uppers : List ℕ) (end : ℕ) → Upping code uppers 0 end → Uppers code uppers
 uppers-end code uppers end u = record { each = λ k h. u .each k (omega arith) h }
-
--- ---- the heads of the first k offsets; the block of the offset before k starts at `head`
-
-pub record Heading (code : List Bytecode) (heads : List ℕ) (k head : ℕ) : Type 0 where
-  pub each : (j : ℕ) → j < k → getD heads j 0 ≡ lowerOf code j
-  pub last : (j : ℕ) → suc j ≡ k → head ≡ lowerOf code j
-
-pub heads-begin : (code : List Bytecode) (heads : List ℕ) → Heading code heads 0 0
-heads-begin code heads = record { each = λ j h. absurd (omega arith); last = λ j e. absurd (omega arith) }
-
-pub heads-more : (code : List Bytecode) (marks heads : List ℕ) (k head head′ : ℕ) → Marked code marks → k < length code → k < length heads → head′ ≡ cond (eqb (getD marks k 0) 1) k head
-    → Heading code heads k head → Heading code (set heads k head′) (k + 1) head′
-heads-more code marks heads k head head′ m h room is u = record {
-  each = λ j l. by-eq j k (λ e. ap (λ (x : ℕ). getD (set heads k head′) x 0) e ∙ getD-set-same heads k head′ 0 room ∙ here ∙ ap (lowerOf code) (sym e))
-      (λ g. getD-set-other heads k j head′ 0 g ∙ u .each j (omega arith));
-  last = λ j e. here ∙ ap (lowerOf code) (omega arith);
-}
-  where
-    at : (i : ℕ) → i ≡ k → (b : Bool) → starts code i ≡ b → cond b k head ≡ lowerOf code i
-    at i e true s = sym e ∙ sym (lower-start code i s)
-    at zero e false s = unfold starts in absurd (let z : _≡_ {A = ℕ} 0 1 = cc in omega arith)
-    at (suc i) e false s = u .last i e ∙ sym (lower-next code i s)
-
-    here : head′ ≡ lowerOf code k
-    here = is ∙ ap (λ (b : Bool). cond b k head) (m .each k h) ∙ at k refl (starts code k) refl
-
-pub heads-end : (code : List Bytecode) (heads : List ℕ) (n head : ℕ) → length code ≡ n → Heading code heads n head → Heads code heads
-heads-end code heads n head size u = record { each = λ k h. u .each k (omega arith) }

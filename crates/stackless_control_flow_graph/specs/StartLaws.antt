@@ -15,12 +15,13 @@ use Rattle.base.specs.ListLaws.{by-test, by-eq, or-true, has-in, in-map, in-gat
 use Rattle.stackless_bytecode.specs.declared.Bytecode.{Bytecode}
 use Rattle.stackless_bytecode.specs.Kinds.{nop, at, isExit, isFlagged, isJump, isBranch, fallsThrough, branchDests}
 use Rattle.stackless_bytecode.specs.Successors.{labelOffset, ascending, successors}
-use Rattle.stackless_bytecode.specs.SuccessorLaws.{Sound, Next, in-succs, succs-in}
+use Rattle.stackless_bytecode.specs.SuccessorLaws.{Next, in-succs, succs-in}
+use Rattle.stackless_bytecode.specs.Sound.{Sound}
 use Rattle.stackless_bytecode.specs.Slots.{noLabel, slotAt, Resolved}
-use Rattle.stackless_bytecode.specs.SlotLaws.{Below}
+use Rattle.stackless_bytecode.specs.SlotLaws.{LabelsBelow}
 use Rattle.stackless_control_flow_graph.specs.Blocks.{targets, starts}
 use Rattle.stackless_control_flow_graph.specs.BlockLaws.{Last, succs-start}
-use Rattle.stackless_control_flow_graph.specs.Arrays.{succsBy, noOffset, pairOf, succsIn, putTwo, markAll, Within, Going, Marked, Marking}
+use Rattle.stackless_control_flow_graph.specs.Arrays.{succsBy, noOffset, pairOf, succsIn, putTwo, markAll, Within, SuccessorsTo, Marked, Marking}
 
 -- ---- none, one or two by value
 
@@ -91,7 +92,7 @@ slot-two code k =
     let b : (2 * k + 1) % 2 ≡ 1 = omega arith in
     ap₂ (λ (x y : ℕ). getD (branchDests (at code x)) y noLabel) a b
 
-pub resolved-succs : (code : List Bytecode) (ts : List ℕ) (k : ℕ) → Resolved code ts → k < length code → Below (at code k)
+pub resolved-succs : (code : List Bytecode) (ts : List ℕ) (k : ℕ) → Resolved code ts → k < length code → LabelsBelow (at code k)
     → succsBy (at code k) (getD ts (2 * k) 0) (getD ts (2 * k + 1) 0) (k + 1) ≡ successors code k
 unfolding succsBy successors
 resolved-succs code ts k r h below =
@@ -128,7 +129,7 @@ two-places (suc (suc c)) f s w =
     ∙ ap (λ (l : List ℕ). f ∷ s ∷ l) (sym (take-nil c))
 
 pub going-more : (code : List Bytecode) (k : ℕ) (goes xs : List ℕ) → 2 * k + 1 < length goes → pairOf (getD xs 0 noOffset) (getD xs 1 noOffset) ≡ successors code k
-    → Going code k goes → Going code (k + 1) (putTwo goes k xs)
+    → SuccessorsTo code k goes → SuccessorsTo code (k + 1) (putTwo goes k xs)
 going-more code k goes xs room is g = record { each = λ j h. by-eq j k (λ e. here j e) (λ q. other j (omega arith)) }
   where
     a : ℕ

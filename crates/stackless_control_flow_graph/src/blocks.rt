@@ -7,17 +7,21 @@ ghost use lib.Dec.{eqb};
 ghost use lib.ListN.{length, getD, take};
 ghost use Rattle.stackless_bytecode.specs.declared.Bytecode.{Bytecode};
 ghost use Rattle.sheet.specs.Layout.{codeOf};
-ghost use Rattle.stackless_control_flow_graph.specs.Arrays.{markedIn, Marked, Uppers, Heads, Listing, Given, Cut};
+ghost use Rattle.stackless_control_flow_graph.specs.Arrays.{markedIn, Marked, Uppers, Listing, CheckedSheet, BlocksFound};
 use crate::starts::visit_all;
-use crate::width::narrow;
+use base::MAX_INSTRUCTIONS;
+use base::width::usize_to_u16;
+
+// A mark for each offset, and one behind the last.
+pub const MARKS: usize = MAX_INSTRUCTIONS + 1;
 
 // Offset k behind the c lowers, where it is marked; how many there are then.
-fn list_lower(lowers: &mut [u16], c: usize, k: usize, mark: u8) -> usize
+fn list_lower(lowers: &mut [u16], c: usize, k: usize, marked: u8) -> usize
     requires { ⌜ (c < length (now lowers)) × (k < 65536) ⌝ }
-    ensures { λ r. ⌜ Listing (now (lowers .entry)) c (cond (eqb mark 1) (k ∷ []) []) (now (lowers .exit)) r ⌝ }
+    ensures { λ r. ⌜ Listing (now (lowers .entry)) c (cond (eqb marked 1) (k ∷ []) []) (now (lowers .exit)) r ⌝ }
 {
-    if mark == 1 {
-        lowers[c] = narrow(k);
+    if marked == 1 {
+        lowers[c] = usize_to_u16(k);
         return c + 1;
     }
     c
@@ -55,27 +59,13 @@ pub fn find_uppers(marks: &[u8], n: usize, uppers: &mut [u16])
     let mut k = n;
     while k > 0 {
         k -= 1;
-        uppers[k] = narrow(end - 1);
+        uppers[k] = usize_to_u16(end - 1);
         end = pick(marks[k], k, end);
     }
 }
 
-// The lower of the block of each offset.
-pub fn find_heads(marks: &[u8], n: usize, heads: &mut [u16])
-    requires { ⌜ (n ≤ length (now marks)) × (n ≤ length (now heads)) × (n < 65536) ⌝ }
-    ensures { λ _. ⌜ ((code : List Bytecode) → length code ≡ n → Marked code (now (marks .entry)) → Heads code (now (heads .exit))) ⌝ }
-{
-    let mut head = 0;
-    let mut k = 0;
-    while k < n {
-        head = pick(marks[k], k, head);
-        heads[k] = narrow(head);
-        k += 1;
-    }
-}
-
 // The successors of every offset, where blocks start, the lowers by offset and the upper of every offset; how many blocks.
-pub fn cut(
+pub fn find_blocks(
     sheet: &[u8],
     n: usize,
     targets: &[u16],
@@ -84,8 +74,8 @@ pub fn cut(
     lowers: &mut [u16],
     uppers: &mut [u16],
 ) -> usize
-    requires { ⌜ Given (now sheet) n (now targets) × (2 * n ≤ length (now goes)) × (n < length (now marks)) × ((j : ℕ) → getD (now marks) j 0 ≡ 0) × (n ≤ length (now lowers)) × (n ≤ length (now uppers)) ⌝ }
-    ensures { λ r. ⌜ Cut (codeOf (now (sheet .entry))) r (now (goes .exit)) (now (lowers .exit)) (now (uppers .exit)) × Marked (codeOf (now (sheet .entry))) (now (marks .exit)) ⌝ }
+    requires { ⌜ CheckedSheet (now sheet) n (now targets) × (2 * n ≤ length (now goes)) × (n < length (now marks)) × ((j : ℕ) → getD (now marks) j 0 ≡ 0) × (n ≤ length (now lowers)) × (n ≤ length (now uppers)) ⌝ }
+    ensures { λ r. ⌜ BlocksFound (codeOf (now (sheet .entry))) r (now (goes .exit)) (now (lowers .exit)) (now (uppers .exit)) × Marked (codeOf (now (sheet .entry))) (now (marks .exit)) ⌝ }
 {
     visit_all(sheet, n, targets, goes, marks);
     find_uppers(marks, n, uppers);

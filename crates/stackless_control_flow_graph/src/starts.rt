@@ -4,11 +4,11 @@ ghost use mathlib.Core.List.{_∷_};
 ghost use Prim.Native.Nat.{ℕ, _+_, _*_, _≤_, _<_};
 ghost use lib.ListN.{length, getD};
 ghost use Rattle.sheet.specs.Layout.{codeOf};
-ghost use Rattle.stackless_control_flow_graph.specs.Arrays.{noOffset, listOf, putTwo, markAll, Within, Going, Marked, Visits, Given};
+ghost use Rattle.stackless_control_flow_graph.specs.Arrays.{noOffset, listOf, putTwo, markAll, Within, SuccessorsTo, Marked, Visits, CheckedSheet};
 use crate::Successors;
 use crate::next::by_kind;
-use crate::width::narrow;
-use crate::width::wide;
+use base::width::u16_to_usize;
+use base::width::usize_to_u16;
 use sheet::reader;
 
 // Stands for no offset.
@@ -43,7 +43,7 @@ fn put_two(goes: &mut [u16], k: usize, e: Successors)
 }
 
 // Blocks start at `next` and at these successors.
-fn mark(marks: &mut [u8], next: usize, e: Successors)
+fn mark_starts(marks: &mut [u8], next: usize, e: Successors)
     requires { ⌜ Within (length (now marks)) (next ∷ listOf e) ⌝ }
     ensures { λ _. ⌜ now (marks .exit) ≡ markAll (now (marks .entry)) (next ∷ listOf e) ⌝ }
 {
@@ -51,34 +51,34 @@ fn mark(marks: &mut [u8], next: usize, e: Successors)
     if e.count == 0 {
         return;
     }
-    let first = wide(e.first);
+    let first = u16_to_usize(e.first);
     marks[first] = 1;
     if e.count == 1 {
         return;
     }
-    let second = wide(e.second);
+    let second = u16_to_usize(e.second);
     marks[second] = 1;
 }
 
 // The successors of offset k into their places, and the blocks that it starts.
 fn visit(sheet: &[u8], n: usize, targets: &[u16], k: usize, goes: &mut [u16], marks: &mut [u8])
-    requires { ⌜ Given (now sheet) n (now targets) × (k < n) × (2 * n ≤ length (now goes)) × (n < length (now marks)) ⌝ }
+    requires { ⌜ CheckedSheet (now sheet) n (now targets) × (k < n) × (2 * n ≤ length (now goes)) × (n < length (now marks)) ⌝ }
     ensures { λ _. ⌜ Visits (codeOf (now (sheet .entry))) k (now (goes .entry)) (now (marks .entry)) (now (goes .exit)) (now (marks .exit)) ⌝ }
 {
     let r = reader::instruction_at(sheet, k);
     let at = 2 * k;
     let next = k + 1;
-    let e = by_kind(r, targets[at], targets[at + 1], narrow(next));
+    let e = by_kind(r, targets[at], targets[at + 1], usize_to_u16(next));
     put_two(goes, k, e);
     if r.is_branch() {
-        mark(marks, next, e);
+        mark_starts(marks, next, e);
     }
 }
 
 // The successors of every offset, and 1 where a block starts: at 0, at the successors of whatever branches, and behind it.
 pub fn visit_all(sheet: &[u8], n: usize, targets: &[u16], goes: &mut [u16], marks: &mut [u8])
-    requires { ⌜ Given (now sheet) n (now targets) × (2 * n ≤ length (now goes)) × (n < length (now marks)) × ((j : ℕ) → getD (now marks) j 0 ≡ 0) ⌝ }
-    ensures { λ _. ⌜ Going (codeOf (now (sheet .entry))) n (now (goes .exit)) × Marked (codeOf (now (sheet .entry))) (now (marks .exit)) ⌝ }
+    requires { ⌜ CheckedSheet (now sheet) n (now targets) × (2 * n ≤ length (now goes)) × (n < length (now marks)) × ((j : ℕ) → getD (now marks) j 0 ≡ 0) ⌝ }
+    ensures { λ _. ⌜ SuccessorsTo (codeOf (now (sheet .entry))) n (now (goes .exit)) × Marked (codeOf (now (sheet .entry))) (now (marks .exit)) ⌝ }
 {
     marks[0] = 1;
     let mut k = 0;

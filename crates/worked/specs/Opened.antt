@@ -1,7 +1,8 @@
--- Every definition of the paper, opened by one name: a proof by computation says `unfolding opened`. Assumes nothing.
+-- Every definition that the worked sheets compute through, opened by one name: a proof by computation says `unfolding opened`.
+-- Made by tools/believed --opened. Assumes nothing.
 use Rattle.base.specs.Lists.{tab, keep, count, total, joins, gather, over, sum, all, any, zeros, has, place, firsts, firstBad}
 use Rattle.base.specs.Bytes.{number, bytesOf}
-use Rattle.base.specs.Refusals.{refuse, whole, reply, resultOf, left}
+use Rattle.base.specs.Refusals.{check, whole, _then_, lends, reply}
 use Rattle.dataflow_domains.specs.Mask.{bit, holds, union, minus, setOf, unions}
 use Rattle.dataflow_analysis.specs.Worklist.{news, joined, receive, begin, popped, step, run}
 use Rattle.stackless_bytecode.specs.Kinds.{dstsOf, srcsOf, isExit, isFlagged, isJump, isBranch, fallsThrough, branchDests, labelOf}
@@ -12,12 +13,16 @@ use Rattle.stackless_control_flow_graph.specs.Blocks.{targets, starts, lowers, 
 use Rattle.stackless_control_flow_graph.specs.Backward.{nextsOf, times, predsFrom, leadsTo}
 use Rattle.livevar_analysis.specs.Live.{assigned, called, execute}
 use Rattle.livevar_analysis.specs.Analysis.{executeAll, restOf, outOf, analyzeFunction, infoOf, analyze, liveBytes, liveReply}
-use Rattle.livevar_transform.specs.Rewrite.{destroys, destroyBlock, blockSize, isDead, isMerged, isDropped, targetOf, highest, nextFreeLabel, nextFreeAttr, lostRefs, isLosing, labelFor, attrFor, goesTo, standsFor, keptCode, blockOn, addedCode, transformCode, rewritten, writtenReply, rewriteReply}
-use Rattle.borrow_analysis.specs.Graph.{graphOf, nodesOk, rank, tripleOk, triplesBad, moved, checkAsked, checkGraphs}
-use Rattle.borrow_analysis.specs.Borrows.{parentsIn, upward, above, isInUse, incoming, manyIn, isConditional, getParents, collectAncestors, dyingNodes, inUseReply, conditionalReply, dyingReply}
-use Rattle.listing.specs.Lines.{hexDigit, hex, decimalIn, decimal, line, lines, printed, livelist}
+use Rattle.livevar_transform.specs.Rewrite.{destroys, destroyBlock, blockSize, isDead, isMerged, isDropped, targetOf, highest, nextFreeLabel, nextFreeAttr, lostRefs, isLosing, labelFor, attrFor, goesTo, standsFor, keptCode, blockOn, addedCode, transformCode, numbersFit, rewriteReply}
+use Rattle.borrow_analysis.specs.Graph.{graphOf, nodesOk, rank, tripleOk, triplesBad, checkAsked, moved, checkGraphs}
+use Rattle.borrow_analysis.specs.Borrows.{getParents, incoming, parentsIn, upward, above, isInUse, manyIn, isConditional, collectAncestors, dyingNodesAt, dyingNodes, inUseReply, conditionalReply, dyingReply}
+use Rattle.listing.specs.Words.{hexDigit, hex, decimalIn, decimal}
+use Rattle.listing.specs.Lines.{line, lines, textOf, refusedText, printed, livelist}
 use Rattle.worked.specs.Samples.{headingOf, plain, flagged, m1, m2, m3, m4, m5, m6, m4New, m5New, m6New, chain}
+use Rattle.pages.specs.Words.{word, marked, listed}
+use Rattle.pages.specs.Code.{names, destinations, branchLabels, labels, sources, aborting, does, takes, codeLine, localsIn, counts, heading, codeText}
+use Rattle.pages.specs.Page.{boundsText, leadsText, blockLine, flowText, setText, liveLine, liveText, rewrittenText, sections, pageBy, page}
 
 unfoldable pub opened : Unit {0}
-unfolding tab keep count total joins gather over sum all any zeros has place firsts firstBad number bytesOf refuse whole reply resultOf left bit holds union minus setOf unions news joined receive begin popped step run dstsOf srcsOf isExit isFlagged isJump isBranch fallsThrough branchDests labelOf labelFrom labelOffset ascending successors blockAt checkOf countOf localsOf userLocalsOf parametersOf refsOf recordBlocks decode instructionAt codeOf padded encode blockOf bodyOf sheetOf lengthOk blockOk headingOk fits recordOk placeOk localsOk fresh namesOk checkForm checkCode checkSheet targets starts lowers blocksOf lowerOf upFrom upperOf keyed keyOf succKeys row flowTable flowReply nextsOf times predsFrom leadsTo assigned called execute executeAll restOf outOf analyzeFunction infoOf analyze liveBytes liveReply destroys destroyBlock blockSize isDead isMerged isDropped targetOf highest nextFreeLabel nextFreeAttr lostRefs isLosing labelFor attrFor goesTo standsFor keptCode blockOn addedCode transformCode rewritten writtenReply rewriteReply graphOf nodesOk rank tripleOk triplesBad moved checkAsked checkGraphs parentsIn upward above isInUse incoming manyIn isConditional getParents collectAncestors dyingNodes inUseReply conditionalReply dyingReply hexDigit hex decimalIn decimal line lines printed livelist headingOf plain flagged m1 m2 m3 m4 m5 m6 m4New m5New m6New chain
+unfolding tab keep count total joins gather over sum all any zeros has place firsts firstBad number bytesOf check whole _then_ lends reply bit holds union minus setOf unions news joined receive begin popped step run dstsOf srcsOf isExit isFlagged isJump isBranch fallsThrough branchDests labelOf labelFrom labelOffset ascending successors blockAt checkOf countOf localsOf userLocalsOf parametersOf refsOf recordBlocks decode instructionAt codeOf padded encode blockOf bodyOf sheetOf lengthOk blockOk headingOk fits recordOk placeOk localsOk fresh namesOk checkForm checkCode checkSheet targets starts lowers blocksOf lowerOf upFrom upperOf keyed keyOf succKeys row flowTable flowReply nextsOf times predsFrom leadsTo assigned called execute executeAll restOf outOf analyzeFunction infoOf analyze liveBytes liveReply destroys destroyBlock blockSize isDead isMerged isDropped targetOf highest nextFreeLabel nextFreeAttr lostRefs isLosing labelFor attrFor goesTo standsFor keptCode blockOn addedCode transformCode numbersFit rewriteReply graphOf nodesOk rank tripleOk triplesBad checkAsked moved checkGraphs getParents incoming parentsIn upward above isInUse manyIn isConditional collectAncestors dyingNodesAt dyingNodes inUseReply conditionalReply dyingReply hexDigit hex decimalIn decimal line lines textOf refusedText printed livelist headingOf plain flagged m1 m2 m3 m4 m5 m6 m4New m5New m6New chain word marked listed names destinations branchLabels labels sources aborting does takes codeLine localsIn counts heading codeText boundsText leadsText blockLine flowText setText liveLine liveText rewrittenText sections pageBy page
 opened = tt

@@ -1,10 +1,8 @@
 -- The page of M6 and of no bytes at all, by computation. Assumes nothing.
 use mathlib.Core.Path.{_≡_, refl}
 use mathlib.Core.List.{[]}
-use Rattle.listing.specs.Text.{refusedText}
-use Rattle.pages.specs.Words.{ascii, word, marked, listed}
-use Rattle.pages.specs.Code.{names, destinations, branchLabels, labels, sources, aborting, does, takes, codeLine, localsIn, counts, heading, codeText}
-use Rattle.pages.specs.Page.{boundsText, leadsText, blockLine, flowText, setText, liveLine, liveText, rewrittenText, sections, pageBy, page}
+use Rattle.listing.specs.Words.{ascii}
+use Rattle.pages.specs.Page.{page}
 use Rattle.worked.specs.Samples.{m6}
 use Rattle.worked.specs.Opened.{opened}
 
@@ -13,5 +11,5 @@ pub record Pages : Type 0 where
   pub none-page : page [] ≡ ascii "refused 1 0\n"
 
 pub pages : Pages
-unfolding opened word marked listed refusedText names destinations branchLabels labels sources aborting does takes codeLine localsIn counts heading codeText boundsText leadsText blockLine flowText setText liveLine liveText rewrittenText sections pageBy page
+unfolding opened
 pages = record { m6-page = refl; none-page = refl }

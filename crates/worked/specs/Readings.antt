@@ -1,20 +1,26 @@
 -- Readings that the worked sheets do not pin down, by computation: each refusal, keys, double edges, exits with a flag, merging, graphs. Assumes nothing.
 use mathlib.Core.Path.{_≡_, refl}
-use mathlib.Core.List.{List, [], _∷_, _++_}
-use Prim.Native.Nat.{ℕ, _+_, _*_, _^_, _-_}
-use lib.ListN.{set}
-use Rattle.base.specs.Sizes.{maxBytes}
+use mathlib.Core.Bool.{false}
+use mathlib.Core.List.{List, [], _∷_, _++_, map}
+use Prim.Native.Nat.{ℕ, zero, suc, _+_, _*_, _^_, _-_, _<_}
+use native.Mathlib.Omega.{arith}
+use lib.ListN.{set, replicate}
+use Rattle.base.specs.Sizes.{blockBytes, maxBytes}
 use Rattle.base.specs.Lists.{tab, gather}
 use Rattle.base.specs.Refusals.{Accepted, Refused, No, Done}
 use Rattle.stackless_bytecode.specs.declared.Bytecode.{Bytecode}
-use Rattle.stackless_bytecode.specs.Kinds.{Stop, Destroy}
-use Rattle.sheet.specs.Layout.{sheetOf}
-use Rattle.sheet.specs.Checks.{checkSheet}
+use Rattle.stackless_bytecode.specs.Kinds.{at, Stop, Destroy}
+use Rattle.stackless_bytecode.specs.Successors.{successors}
+use Rattle.dataflow_domains.specs.Mask.{unions}
+use Rattle.sheet.specs.Layout.{countOf, blockOf, sheetOf}
+use Rattle.sheet.specs.Checks.{headingOk, checkSheet}
 use Rattle.stackless_control_flow_graph.specs.Blocks.{flowTable, flowReply}
+use Rattle.livevar_analysis.specs.Live.{execute, Obeys}
 use Rattle.livevar_analysis.specs.Analysis.{analyze, liveReply}
 use Rattle.livevar_transform.specs.Rewrite.{transformCode, rewriteReply}
 use Rattle.borrow_analysis.specs.Borrows.{inUseReply, conditionalReply, dyingReply}
 use Rattle.worked.specs.Samples.{headingOf, plain, flagged, m1, assign, call, ret, load, branch, jump, label, abort, Not, ReadRef}
+use Rattle.worked.specs.Worked.{sets}
 use Rattle.worked.specs.Opened.{opened}
 
 -- a sheet of this many locals without parameters or references
@@ -25,12 +31,16 @@ sheet locals code = sheetOf (headingOf locals 0 0) code
 unfoldable pub again : ℕ → ℕ → List Bytecode → List Bytecode
 again locals refs code = transformCode code (analyze code locals .info) refs
 
--- 15 Branches whose else edge loses 64 references: 41 instructions that would become 1,031
-unfoldable pub losing : List ℕ
-losing =
-    sheetOf (headingOf 64 0 (2 ^ 64 - 1)) (gather (λ i. branch 0 (i + 1) 99 0 ∷ label 0 (i + 1) ∷ []) (tab 15 0 (λ i. i))
+-- 15 Branches whose else edge, to label l, loses 64 references: 41 instructions that would become 1,031
+unfoldable pub losing : ℕ → List ℕ
+losing l =
+    sheetOf (headingOf 64 0 (2 ^ 64 - 1)) (gather (λ i. branch 0 (i + 1) l 0 ∷ label 0 (i + 1) ∷ []) (tab 15 0 (λ i. i))
     ++ gather (λ i. call 0 Destroy [] (tab 8 (8 * i) (λ x. x)) ∷ []) (tab 8 0 (λ i. i))
-    ++ (ret 0 [] ∷ label 0 99 ∷ ret 0 [] ∷ []))
+    ++ (ret 0 [] ∷ label 0 l ∷ ret 0 [] ∷ []))
+
+-- the byte at `at` is x, and the check of the heading, whose low byte is 2, then c
+unfoldable pub changed : List ℕ → ℕ → ℕ → ℕ → List ℕ
+changed s at x c = set (set s at x) 2 c
 
 -- ---- refusals
 
@@ -38,10 +48,18 @@ pub record Refusals : Type 0 where
   pub refused-1 : checkSheet [] ≡ Refused 1 0
   pub refused-2-check : checkSheet (set m1 2 5) ≡ Refused 2 0
   pub refused-2-later : checkSheet (set m1 600 1) ≡ Refused 2 1
+  -- n 0, and block 1 broken: check 2 comes first
+  pub refused-2-first : checkSheet (set (changed m1 4 0 3) 600 1) ≡ Refused 2 1
+  pub refused-3-none : checkSheet (changed m1 4 0 3) ≡ Refused 3 0
+  -- a spare whole block, and a missing one
+  pub refused-3-spare : checkSheet (m1 ++ blockOf 2 (replicate (blockBytes - 4) 0)) ≡ Refused 3 0
+  pub refused-3-missing : checkSheet (changed m1 4 16 19) ≡ Refused 3 0
   pub refused-3-locals : checkSheet (sheet 65 (ret 0 [] ∷ [])) ≡ Refused 3 0
   pub refused-3-mask : checkSheet (sheetOf (headingOf 1 0 2) (ret 0 [] ∷ [])) ≡ Refused 3 0
   pub refused-4-kind : checkSheet (sheet 1 (ret 0 [] ∷ plain 12 0 0 0 0 [] [] ∷ [])) ≡ Refused 4 1
   pub refused-4-sub : checkSheet (sheet 1 (plain 0 3 0 0 0 (0 ∷ []) (0 ∷ []) ∷ ret 0 [] ∷ [])) ≡ Refused 4 0
+  -- a record past n, at its own place
+  pub refused-4-past : checkSheet (changed (sheet 1 (ret 0 [] ∷ ret 0 [] ∷ [])) 4 1 3) ≡ Refused 4 1
   -- each check runs over the whole sheet before the next
   pub refused-4-first : checkSheet (sheet 1 (ret 0 (1 ∷ []) ∷ plain 0 3 0 0 0 (0 ∷ []) (0 ∷ []) ∷ ret 0 [] ∷ [])) ≡ Refused 4 1
   pub refused-5 : checkSheet (sheet 1 (ret 0 (1 ∷ []) ∷ [])) ≡ Refused 5 0
@@ -49,6 +67,8 @@ pub record Refusals : Type 0 where
   pub refused-6 : checkSheet (sheet 1 (label 0 1 ∷ label 0 1 ∷ ret 0 [] ∷ [])) ≡ Refused 6 1
   pub refused-7 : checkSheet (sheet 1 (label 0 1 ∷ jump 0 9 ∷ [])) ≡ Refused 7 1
   pub refused-8 : checkSheet (sheet 1 (load 0 0 ∷ [])) ≡ Refused 8 0
+  -- whether or not a path reaches the end
+  pub refused-8-unreached : checkSheet (sheet 1 (ret 0 [] ∷ load 0 0 ∷ [])) ≡ Refused 8 1
   -- a flagged Stop falls through
   pub refused-8-stop : checkSheet (sheet 1 (label 0 1 ∷ flagged (call 0 Stop [] []) 1 0 ∷ [])) ≡ Refused 8 1
   pub refused-9-flow : flowReply m1 5 ≡ No 9 0
@@ -60,7 +80,11 @@ pub record Refusals : Type 0 where
   pub accepted-10 : rewriteReply (sheetOf (headingOf 3 0 2) (branch 0 1 2 0 ∷ label 1 1 ∷ call 2 ReadRef (2 ∷ []) (1 ∷ []) ∷ ret 3 (2 ∷ []) ∷ label 4 2 ∷ ret 65532 [] ∷ [])) maxBytes
       ≡ Done 1024 (sheetOf (headingOf 3 0 2) (branch 0 1 3 0 ∷ label 1 1 ∷ call 2 ReadRef (2 ∷ []) (1 ∷ []) ∷ ret 3 (2 ∷ []) ∷ label 4 2 ∷ ret 65532 [] ∷ label 65533 3 ∷ call 65534 Destroy [] (1 ∷ []) ∷ jump 65535 2 ∷ []))
   pub refused-10-attr : rewriteReply (sheetOf (headingOf 3 0 2) (branch 0 1 2 0 ∷ label 1 1 ∷ call 2 ReadRef (2 ∷ []) (1 ∷ []) ∷ ret 3 (2 ∷ []) ∷ label 4 2 ∷ ret 65533 [] ∷ [])) maxBytes ≡ No 10 0
-  pub refused-11 : rewriteReply losing maxBytes ≡ No 11 0
+  -- 10 is asked only where a block is needed
+  pub unasked-10 : rewriteReply (sheet 1 (label 65535 65535 ∷ ret 0 [] ∷ [])) maxBytes ≡ Done 1024 (sheet 1 (label 65535 65535 ∷ ret 0 [] ∷ []))
+  pub refused-11 : rewriteReply (losing 99) maxBytes ≡ No 11 0
+  -- both at once is 10
+  pub refused-10-first : rewriteReply (losing 65535) maxBytes ≡ No 10 0
   pub refused-12 : inUseReply (record { count = 3; live = 8; numbers = [] }) 0 ≡ No 12 0
   pub refused-12-second : dyingReply (record { count = 3; live = 4; numbers = 0 ∷ 3 ∷ 0 ∷ [] }) (record { count = 3; live = 8; numbers = [] }) 3 ≡ No 12 1
   pub refused-13-length : inUseReply (record { count = 3; live = 0; numbers = 0 ∷ 1 ∷ [] }) 0 ≡ No 13 300
@@ -69,21 +93,27 @@ pub record Refusals : Type 0 where
   pub refused-14 : inUseReply (record { count = 3; live = 0; numbers = [] }) 3 ≡ No 14 0
 
 pub refusals : Refusals
-unfolding sheet losing opened
+unfolding sheet losing changed opened
 refusals = record {
   refused-1 = refl;
   refused-2-check = refl;
   refused-2-later = refl;
+  refused-2-first = refl;
+  refused-3-none = refl;
+  refused-3-spare = refl;
+  refused-3-missing = refl;
   refused-3-locals = refl;
   refused-3-mask = refl;
   refused-4-kind = refl;
   refused-4-sub = refl;
+  refused-4-past = refl;
   refused-4-first = refl;
   refused-5 = refl;
   refused-5-abort = refl;
   refused-6 = refl;
   refused-7 = refl;
   refused-8 = refl;
+  refused-8-unreached = refl;
   refused-8-stop = refl;
   refused-9-flow = refl;
   refused-9-live = refl;
@@ -92,7 +122,9 @@ refusals = record {
   refused-10 = refl;
   accepted-10 = refl;
   refused-10-attr = refl;
+  unasked-10 = refl;
   refused-11 = refl;
+  refused-10-first = refl;
   refused-12 = refl;
   refused-12-second = refl;
   refused-13-length = refl;
@@ -100,6 +132,11 @@ refusals = record {
   refused-13-second = refl;
   refused-14 = refl;
 }
+
+-- n 1,025 breaks the heading, whatever else the sheet has and however many blocks
+pub too-many : (s : List ℕ) → countOf s ≡ 1025 → headingOk s ≡ false
+unfolding headingOk
+too-many s e = rw e
 
 -- ---- flow, live and graphs
 
@@ -120,9 +157,14 @@ pub record Readings : Type 0 where
       ≡ 0 ∷ 0 ∷ 4 ∷ 2 ∷ 3 ∷ 1 ∷ 1 ∷ 1 ∷ 2 ∷ 1 ∷ 0 ∷ 0 ∷ 2 ∷ 3 ∷ 3 ∷ 1 ∷ 0 ∷ 0 ∷ []
   -- the set's bytes: before, then after
   pub live-bytes : liveReply m1 16 ≡ Done 3 (1 ∷ 0 ∷ 0 ∷ 0 ∷ 0 ∷ 0 ∷ 0 ∷ 0 ∷ 0 ∷ 0 ∷ 0 ∷ 0 ∷ 0 ∷ 0 ∷ 0 ∷ 0 ∷ [])
+  -- a destination that is a source stays in, and so does d in an Assign from d to d
+  pub destination-is-source : analyze (call 0 Not (0 ∷ []) (0 ∷ []) ∷ ret 0 (0 ∷ []) ∷ []) 1 .info ≡ sets 1 1 ∷ sets 1 0 ∷ []
+  pub assign-to-itself : analyze (assign 0 0 0 ∷ ret 0 (0 ∷ []) ∷ []) 1 .info ≡ sets 1 1 ∷ sets 1 0 ∷ []
   -- two triples from one parent make a node conditional, and its ancestors
   pub two-triples-one-parent : conditionalReply (record { count = 3; live = 0; numbers = 0 ∷ 2 ∷ 0 ∷ 0 ∷ 2 ∷ 1 ∷ [] }) 0 ≡ Done 1 []
   pub one-triple : conditionalReply (record { count = 3; live = 0; numbers = 0 ∷ 2 ∷ 0 ∷ [] }) 0 ≡ Done 0 []
+  -- a triple from a node to itself counts as incoming
+  pub triple-to-itself : conditionalReply (record { count = 2; live = 0; numbers = 0 ∷ 1 ∷ 0 ∷ 1 ∷ 1 ∷ 0 ∷ [] }) 1 ≡ Done 1 []
   -- in use on a cycle
   pub in-use-on-a-cycle : inUseReply (record { count = 2; live = 2; numbers = 0 ∷ 1 ∷ 0 ∷ 1 ∷ 0 ∷ 0 ∷ [] }) 0 ≡ Done 1 []
   pub unused-on-a-cycle : inUseReply (record { count = 3; live = 4; numbers = 0 ∷ 1 ∷ 0 ∷ 1 ∷ 0 ∷ 0 ∷ [] }) 0 ≡ Done 0 []
@@ -140,12 +182,30 @@ readings = record {
   named-unreached = refl;
   flagged-stop = refl;
   live-bytes = refl;
+  destination-is-source = refl;
+  assign-to-itself = refl;
   two-triples-one-parent = refl;
   one-triple = refl;
+  triple-to-itself = refl;
   in-use-on-a-cycle = refl;
   unused-on-a-cycle = refl;
   not-child-first = refl;
 }
+
+-- sets that hold local 0 everywhere obey the rules of an endless loop that never uses it
+pub room-for-more : Obeys (label 0 1 ∷ jump 0 1 ∷ []) (λ k. 1) (λ k. 1)
+unfolding opened
+room-for-more = record { after = after; before = before }
+  where
+    after : (k : ℕ) → k < 2 → 1 ≡ unions (map (λ (j : ℕ). 1) (successors (label 0 1 ∷ jump 0 1 ∷ []) k))
+    after zero h = refl
+    after (suc zero) h = refl
+    after (suc (suc k)) h = absurd (omega arith)
+
+    before : (k : ℕ) → k < 2 → 1 ≡ execute (at (label 0 1 ∷ jump 0 1 ∷ []) k) 1
+    before zero h = refl
+    before (suc zero) h = refl
+    before (suc (suc k)) h = absurd (omega arith)
 
 -- ---- rewriting
 

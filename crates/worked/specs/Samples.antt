@@ -7,7 +7,7 @@ use Rattle.base.specs.Bytes.{bytesOf}
 use Rattle.stackless_bytecode.specs.declared.Bytecode.{Bytecode}
 use Rattle.stackless_bytecode.specs.Kinds.{Assign, Call, Ret, Load, Branch, Jump, Label, Abort, Destroy}
 use Rattle.sheet.specs.Layout.{padded, sheetOf}
-use Rattle.borrow_analysis.specs.Graph.{Given}
+use Rattle.borrow_analysis.specs.Graph.{GraphInput}
 
 -- bytes 6 to 511 of a heading: locals (all of them user locals), parameters, references
 unfoldable pub headingOf : ℕ → ℕ → ℕ → List ℕ
@@ -125,5 +125,5 @@ m6New =
 -- ---- the graphs
 
 -- three nodes, triples 0,1,0 and 1,2,0, with this live mask
-unfoldable pub chain : ℕ → Given
+unfoldable pub chain : ℕ → GraphInput
 chain live = record { count = 3; live = live; numbers = 0 ∷ 1 ∷ 0 ∷ 1 ∷ 2 ∷ 0 ∷ [] }

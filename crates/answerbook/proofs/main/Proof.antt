@@ -1,69 +1,57 @@
--- `answerbook::main` meets its contract: the text is inside the lent array. Assumes nothing.
+-- `answerbook::main` meets its contract: what was read is inside the array. Assumes nothing.
 use native.Mathlib.Omega.{arith}
 use borrow.Author.Needs.{needs}
-use mathlib.Core.Path.{_≡_, sym, _∙_}
-use mathlib.Core.List.{List}
-use Prim.Native.Nat.{ℕ, _≤_}
-use lib.ListN.{length, take, replicate, length-take, length-replicate}
-use Rattle.pages.specs.Size.{pageBytes}
+use mathlib.Core.Path.{sym, ap}
+use lib.Seq.{length-take-le}
+use Rattle.streams.specs.Input.{bytesOf}
 use Rattle.answerbook.proofs.main.Statement.{statement}
 use Rattle.answerbook.proofs.main.Tie as tie
 
--- the front of what was lent, as long as the text
-front-long : (r long : ℕ) (new : List ℕ) → r ≤ long → length new ≡ long → r ≡ length (take r new)
-front-long r long new h k = sym (length-take r new ∙ (omega arith))
+slice-aggregate-read-input : tie.Need-slice-aggregate-read-input
+slice-aggregate-read-input c = search needs
 
--- the array for the page
-blank-long : length (replicate {A = ℕ} pageBytes 0) ≡ pageBytes
-blank-long = length-replicate {A = ℕ} pageBytes 0
+read-input-requires : tie.Need-read-input-requires
+read-input-requires c κs = search needs
 
-enough : (n : ℕ) → n ≡ pageBytes → pageBytes ≤ n
-enough n e = omega arith
-
-inside : (r long : ℕ) (new : List ℕ) → r ≤ long → length new ≡ long → r ≤ length new
-inside r long new h k = omega arith
-
-slice-aggregate-read-full : tie.Need-slice-aggregate-read-full
-slice-aggregate-read-full c = search needs
-
-read-full-requires : tie.Need-read-full-requires
-read-full-requires c κs = search needs
-
-array-share-prefix-sheet : tie.Need-array-share-prefix-sheet
-array-share-prefix-sheet c = search needs
-
-slice-aggregate-print-page : tie.Need-slice-aggregate-print-page
-slice-aggregate-print-page c = search needs
-
-slice-aggregate-print-page-2 : tie.Need-slice-aggregate-print-page-2
-slice-aggregate-print-page-2 c = sym blank-long
-
-print-page-requires : tie.Need-print-page-requires
-print-page-requires c κs = enough _ blank-long
-
-array-share-prefix-text : tie.Need-array-share-prefix-text
-array-share-prefix-text c = inside _ _ (c .before .print-page .last .1 .0) (c .before .print-page .ensures .2) (c .before .print-page .kept .1 .0)
+enum-told : tie.Need-enum-told
+enum-told c = search needs
 
 slice-aggregate-write-all : tie.Need-slice-aggregate-write-all
-slice-aggregate-write-all c = front-long _ _ _ (c .before .before .print-page .ensures .2) (c .before .before .print-page .kept .1 .0)
+slice-aggregate-write-all c = search needs
 
 write-all-requires : tie.Need-write-all-requires
 write-all-requires c κs = search needs
 
+enum-known-n : tie.Need-enum-known-n
+enum-known-n c = search needs
+
+array-share-prefix-sheet : tie.Need-array-share-prefix-sheet
+array-share-prefix-sheet c = omega (arith, ap bytesOf (c .before .n .given .1), c .before .before .before .before .read-input .ensures, c .before .before .before .before .read-input .kept .0)
+
+slice-aggregate-print-all : tie.Need-slice-aggregate-print-all
+slice-aggregate-print-all c = sym (length-take-le _ _ (omega (arith, ap bytesOf (c .before .before .n .given .1), c .before .before .before .before .before .read-input .ensures, c .before .before .before .before .before .read-input .kept .0)))
+
+print-all-requires : tie.Need-print-all-requires
+print-all-requires c κs = search needs
+
 returns : tie.Need-returns
 returns c = search needs
+
+returns-2 : tie.Need-returns-2
+returns-2 c = search needs
 
 pub main-spec : {M : Type 1} → statement M
 main-spec =
     tie.close
     (tie.spec
-    slice-aggregate-read-full
-    read-full-requires
-    array-share-prefix-sheet
-    slice-aggregate-print-page
-    slice-aggregate-print-page-2
-    print-page-requires
-    array-share-prefix-text
+    slice-aggregate-read-input
+    read-input-requires
+    enum-told
     slice-aggregate-write-all
     write-all-requires
-    returns)
+    enum-known-n
+    array-share-prefix-sheet
+    slice-aggregate-print-all
+    print-all-requires
+    returns
+    returns-2)

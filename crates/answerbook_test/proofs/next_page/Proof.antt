@@ -1,27 +1,18 @@
 -- `answerbook_test::next_page` meets its contract: the text is inside the lent array. Assumes nothing.
 use native.Mathlib.Omega.{arith}
 use borrow.Author.Needs.{needs}
-use mathlib.Core.Path.{_≡_, sym, _∙_}
-use mathlib.Core.List.{List}
-use Prim.Native.Nat.{ℕ, _≤_}
-use lib.ListN.{length, take, replicate, length-take, length-replicate}
+use mathlib.Core.Path.{_≡_, sym}
+use Prim.Native.Nat.{ℕ}
+use lib.ListN.{length, replicate, length-replicate}
+use lib.Seq.{length-take-le}
+use Rattle.listing.specs.OutputLaws.{wrote-inside}
 use Rattle.pages.specs.Size.{pageBytes}
 use Rattle.answerbook_test.proofs.next_page.Statement.{statement}
 use Rattle.answerbook_test.proofs.next_page.Tie as tie
 
--- the front of what was lent, as long as the text
-front-long : (r long : ℕ) (new : List ℕ) → r ≤ long → length new ≡ long → r ≡ length (take r new)
-front-long r long new h k = sym (length-take r new ∙ (omega arith))
-
 -- the array for the page
 blank-long : length (replicate {A = ℕ} pageBytes 0) ≡ pageBytes
 blank-long = length-replicate {A = ℕ} pageBytes 0
-
-enough : (n : ℕ) → n ≡ pageBytes → pageBytes ≤ n
-enough n e = omega arith
-
-inside : (r long : ℕ) (new : List ℕ) → r ≤ long → length new ≡ long → r ≤ length new
-inside r long new h k = omega arith
 
 slice-aggregate-read-full : tie.Need-slice-aggregate-read-full
 slice-aggregate-read-full c = search needs
@@ -32,20 +23,20 @@ read-full-requires c κs = search needs
 array-share-prefix-sheet : tie.Need-array-share-prefix-sheet
 array-share-prefix-sheet c = search needs
 
-slice-aggregate-print-page : tie.Need-slice-aggregate-print-page
-slice-aggregate-print-page c = search needs
+slice-aggregate-put-page : tie.Need-slice-aggregate-put-page
+slice-aggregate-put-page c = search needs
 
-slice-aggregate-print-page-2 : tie.Need-slice-aggregate-print-page-2
-slice-aggregate-print-page-2 c = sym blank-long
+slice-aggregate-put-page-2 : tie.Need-slice-aggregate-put-page-2
+slice-aggregate-put-page-2 c = sym blank-long
 
-print-page-requires : tie.Need-print-page-requires
-print-page-requires c κs = enough _ blank-long
+put-page-requires : tie.Need-put-page-requires
+put-page-requires c κs = tt
 
 array-share-prefix-text : tie.Need-array-share-prefix-text
-array-share-prefix-text c = inside _ _ (c .before .print-page .last .1 .0) (c .before .print-page .ensures .2) (c .before .print-page .kept .1 .0)
+array-share-prefix-text c = wrote-inside (c .before .put-page .ensures)
 
 slice-aggregate-write-all : tie.Need-slice-aggregate-write-all
-slice-aggregate-write-all c = front-long _ _ _ (c .before .before .print-page .ensures .2) (c .before .before .print-page .kept .1 .0)
+slice-aggregate-write-all c = sym (length-take-le _ _ (wrote-inside (c .before .before .put-page .ensures)))
 
 write-all-requires : tie.Need-write-all-requires
 write-all-requires c κs = search needs
@@ -60,9 +51,9 @@ next-page-spec =
     slice-aggregate-read-full
     read-full-requires
     array-share-prefix-sheet
-    slice-aggregate-print-page
-    slice-aggregate-print-page-2
-    print-page-requires
+    slice-aggregate-put-page
+    slice-aggregate-put-page-2
+    put-page-requires
     array-share-prefix-text
     slice-aggregate-write-all
     write-all-requires

@@ -1,8 +1,14 @@
 -- `borrow_analysis::in_use` meets its contract. Assumes nothing.
 use native.Mathlib.Omega.{arith}
 use mathlib.Core.Path.{sym, ap, _∙_}
-use Rattle.borrow_analysis.specs.Answers.{answerOf}
-use Rattle.borrow_analysis.specs.AcceptedLaws.{told-asked, inside-wider, in-use-refused, in-use-done}
+use mathlib.Core.Bool.{Bool, cond}
+use mathlib.Core.List.{[]}
+use Rattle.base.specs.Refusals.{verdictOf}
+use Rattle.base.specs.ReplyLaws.{refuses, done-result, refused-number}
+use Rattle.base.specs.RefusalLaws.{accepted-by}
+use Rattle.borrow_analysis.specs.AcceptedLaws.{accepted-asked, inside-wider}
+use Rattle.borrow_analysis.specs.CallLaws.{in-use-refused, in-use-done}
+use Rattle.borrow_analysis.specs.MeaningLaws.{in-use-answer}
 use borrow.Author.Needs.{needs}
 use Rattle.borrow_analysis.proofs.in_use.Statement.{statement}
 use Rattle.borrow_analysis.proofs.in_use.Tie as tie
@@ -10,11 +16,11 @@ use Rattle.borrow_analysis.proofs.in_use.Tie as tie
 check-asked-requires : tie.Need-check-asked-requires
 check-asked-requires c κs = search needs
 
-enum-known-r : tie.Need-enum-known-r
-enum-known-r c = search needs
+enum-known-f : tie.Need-enum-known-f
+enum-known-f c = search needs
 
 returns : tie.Need-returns
-returns c = in-use-refused _ _ _ _ (sym (ap answerOf (c .before .r .given .1)) ∙ c .before .before .before .check-asked .ensures)
+returns c = (refuses [] (in-use-refused _ _ (sym (c .before .before .before .check-asked .ensures) ∙ ap verdictOf (c .before .f .given .1))) .result, λ z. absurd (refused-number (c .before .f .given .0 .0) z))
 
 enum-told : tie.Need-enum-told
 enum-told c = search needs
@@ -23,31 +29,35 @@ live-set-requires : tie.Need-live-set-requires
 live-set-requires c κs = search needs
 
 above-requires : tie.Need-above-requires
-above-requires c κs = let ok = told-asked _ _ _ (c .before .before .before .check-asked .ensures) (c .before .enum-told .given .1) in inside-wider _ (ok .0 .few) (ok .0 .inside)
+above-requires c κs = let ok = accepted-asked _ _ (accepted-by _ (c .before .before .before .check-asked .ensures) (c .before .enum-told .given .1)) in inside-wider _ (ok .0 .few) (ok .0 .inside)
 
 cast-has : tie.Need-cast-has
-cast-has c = let ok = told-asked _ _ _ (c .before .before .before .before .check-asked .ensures) (c .before .before .enum-told .given .1) in omega (arith, ok .0 .few, ok .1)
+cast-has c = let ok = accepted-asked _ _ (accepted-by _ (c .before .before .before .before .check-asked .ensures) (c .before .before .enum-told .given .1)) in omega (arith, ok .0 .few, ok .1)
 
 has-requires : tie.Need-has-requires
-has-requires c κs = let ok = told-asked _ _ _ (c .before .before .before .before .check-asked .ensures) (c .before .before .enum-told .given .1) in omega (arith, ok .0 .few, ok .1)
+has-requires c κs = let ok = accepted-asked _ _ (accepted-by _ (c .before .before .before .before .check-asked .ensures) (c .before .before .enum-told .given .1)) in omega (arith, ok .0 .few, ok .1)
 
-of-requires : tie.Need-of-requires
-of-requires c κs = search needs
+yes-or-no-requires : tie.Need-yes-or-no-requires
+yes-or-no-requires c κs = search needs
 
 returns-2 : tie.Need-returns-2
-returns-2 c = c .of .ensures ∙ in-use-done _ _ _ _ _ (sym (ap answerOf (c .before .before .before .before .enum-told .given .1)) ∙ c .before .before .before .before .before .before .check-asked .ensures) (c .before .before .above .ensures) (c .before .before .before .live-set .ensures) (sym (c .before .has .ensures))
+returns-2 c =
+    let p = c .before .before .before .before in
+    let a = accepted-by _ (p .before .before .check-asked .ensures) (p .enum-told .given .1) in
+    let e = c .yes-or-no .ensures ∙ done-result (ap (λ (b : Bool). cond b 1 0) (c .before .has .ensures)) (in-use-done _ _ _ _ a (c .before .before .above .ensures) (c .before .before .before .live-set .ensures)) in
+    (e, λ z. in-use-answer _ _ a e)
 
 pub in-use-spec : {M : Type 1} → statement M
 in-use-spec =
     tie.close
     (tie.spec
     check-asked-requires
-    enum-known-r
+    enum-known-f
     returns
     enum-told
     live-set-requires
     above-requires
     cast-has
     has-requires
-    of-requires
+    yes-or-no-requires
     returns-2)

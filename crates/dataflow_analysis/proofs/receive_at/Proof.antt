@@ -36,9 +36,11 @@ same-length-3 : tie.Need-same-length-3
 same-length-3 c = search needs
 
 returns : tie.Need-returns
-returns c = let a = c .before .before .before .before .before .before .before .before .before .before .before .before .before .before .before .before .before .args in
+returns c =
+    let c17 = c .before .before .before .before .before .before .before .before .before .before .before .before .before .before .before .before .before in
+    let a = c17 .args in
     let news : newsAt (a .sets .now) (a .met .now) (a .p) (mask (a .m)) ≡ true = news-first _ _ _ _ (c .before .before .before .before .before .before .before .before .if1 .taken) in
-    received-news (a .sets .now) (a .met .now) (a .q .now) (a .c) (a .p) (mask (a .m)) _ _ _ _ _ news (c .before .before .before .before .before .before .before .before .before .before .before .before .load .ensures) (c .before .before .before .before .before .before .before .before .before .before .before .join .ensures .0) (c .before .before .before .before .before .before .store .ensures) (c .before .before .before .before .before .before .before .before .before .before .before .before .before .before .before .before .before .pre .2 news) (c .before .before .put .ensures)
+    received-news (a .sets .now) (a .met .now) (a .q .now) (a .c) (a .p) (mask (a .m)) _ _ _ _ _ news (c .before .before .before .before .before .before .before .before .before .before .before .before .load .ensures) (c .before .before .before .before .before .before .before .before .before .before .before .join .ensures .0) (c .before .before .before .before .before .before .store .ensures) (c17 .pre .2 news) (c .before .before .put .ensures)
 
 enum-told : tie.Need-enum-told
 enum-told c = search needs
@@ -74,9 +76,13 @@ same-length-7 : tie.Need-same-length-7
 same-length-7 c = search needs
 
 returns-3 : tie.Need-returns-3
-returns-3 c = let a = c .before .before .before .before .before .before .before .before .before .before .before .before .before .before .before .before .before .before .before .args in
-    let news : newsAt (a .sets .now) (a .met .now) (a .p) (mask (a .m)) ≡ true = news-again _ _ _ _ _ (c .before .before .before .before .before .before .before .before .before .before .before .before .before .before .load .ensures) (c .before .before .before .before .before .before .before .before .before .before .if1 .left) ∙ sym (c .before .before .before .before .before .before .before .before .before .before .before .before .before .join .ensures .1) ∙ ap isChanged (c .before .before .before .before .before .before .before .before .enum-told2 .given .1) in
-    received-news (a .sets .now) (a .met .now) (a .q .now) (a .c) (a .p) (mask (a .m)) _ _ _ _ _ news (c .before .before .before .before .before .before .before .before .before .before .before .before .before .before .load .ensures) (c .before .before .before .before .before .before .before .before .before .before .before .before .before .join .ensures .0) (c .before .before .before .before .before .before .store2 .ensures) (c .before .before .before .before .before .before .before .before .before .before .before .before .before .before .before .before .before .before .before .pre .2 news) (c .before .before .put2 .ensures)
+returns-3 c =
+    let c13 = c .before .before .before .before .before .before .before .before .before .before .before .before .before in
+    let c14 = c13 .before in
+    let c19 = c14 .before .before .before .before .before in
+    let a = c19 .args in
+    let news : newsAt (a .sets .now) (a .met .now) (a .p) (mask (a .m)) ≡ true = news-again _ _ _ _ _ (c14 .load .ensures) (c .before .before .before .before .before .before .before .before .before .before .if1 .left) ∙ sym (c13 .join .ensures .1) ∙ ap isChanged (c .before .before .before .before .before .before .before .before .enum-told2 .given .1) in
+    received-news (a .sets .now) (a .met .now) (a .q .now) (a .c) (a .p) (mask (a .m)) _ _ _ _ _ news (c14 .load .ensures) (c13 .join .ensures .0) (c .before .before .before .before .before .before .store2 .ensures) (c19 .pre .2 news) (c .before .before .put2 .ensures)
 
 pub receive-at-spec : {M : Type 1} → statement M
 receive-at-spec =

@@ -1,48 +1,62 @@
--- `borrow_analysis::graph::check_asked` meets its contract. Assumes nothing.
-use mathlib.Core.Path.{sym, ap, _∙_}
-use borrow.Author.Tests.{not-true, not-false}
-use Rattle.borrow_analysis.specs.Answers.{spotOf}
-use Rattle.borrow_analysis.specs.GraphLaws.{asked-nodes, asked-triples, asked-node, asked-fine}
+-- `borrow_analysis::graph::check_asked` meets its contract: a refusal is the answer, and an accepted check hands over to the next. Assumes nothing.
 use borrow.Author.Needs.{needs}
+use mathlib.Core.Path.{sym, _∙_}
+use Rattle.base.specs.RefusalLaws.{then-goes, refused-by, accepted-by}
+use Rattle.borrow_analysis.specs.Graph.{checkAsked}
+use Rattle.borrow_analysis.specs.GraphLaws.{first-graph}
 use Rattle.borrow_analysis.proofs.graph.check_asked.Statement.{statement}
 use Rattle.borrow_analysis.proofs.graph.check_asked.Tie as tie
 
-nodes-ok-requires : tie.Need-nodes-ok-requires
-nodes-ok-requires c κs = search needs
-
-returns : tie.Need-returns
-returns c = asked-nodes _ _ _ _ (sym (c .before .nodes-ok .ensures) ∙ not-true _ (c .if1 .taken))
-
-triples-bad-requires : tie.Need-triples-bad-requires
-triples-bad-requires c κs = search needs
-
-enum-known-p : tie.Need-enum-known-p
-enum-known-p c = search needs
-
-returns-2 : tie.Need-returns-2
-returns-2 c =
-    asked-triples _ _ _ _ _ (sym (c .before .before .before .before .before .nodes-ok .ensures) ∙ not-false _ (c .before .before .before .before .if1 .left)) (sym (c .before .before .before .triples-bad .ensures) ∙ ap spotOf (c .before .p .given .1))
+check-nodes-requires : tie.Need-check-nodes-requires
+check-nodes-requires c κs = search needs
 
 enum-told : tie.Need-enum-told
 enum-told c = search needs
 
-returns-3 : tie.Need-returns-3
-returns-3 c =
-    asked-node _ _ _ _ (sym (c .before .before .before .before .before .nodes-ok .ensures) ∙ not-false _ (c .before .before .before .before .if1 .left)) (sym (c .before .before .before .triples-bad .ensures) ∙ ap spotOf (c .before .enum-told .given .1)) (c .if2 .taken)
+enum-told-2 : tie.Need-enum-told-2
+enum-told-2 c = search needs
 
-returns-4 : tie.Need-returns-4
-returns-4 c =
-    asked-fine _ _ _ _ (sym (c .before .before .before .before .before .nodes-ok .ensures) ∙ not-false _ (c .before .before .before .before .if1 .left)) (sym (c .before .before .before .triples-bad .ensures) ∙ ap spotOf (c .before .enum-told .given .1)) (c .if2 .left)
+returns : tie.Need-returns
+unfolding checkAsked
+returns c = refused-by _ _ _ (c .before .before .check-nodes .ensures ∙ first-graph _ _) (c .enum-told2 .given .1)
+
+check-triples-requires : tie.Need-check-triples-requires
+check-triples-requires c κs = search needs
+
+enum-told-3 : tie.Need-enum-told-3
+enum-told-3 c = search needs
+
+enum-told-4 : tie.Need-enum-told-4
+enum-told-4 c = search needs
+
+returns-2 : tie.Need-returns-2
+unfolding checkAsked
+returns-2 c =
+    refused-by _ _ _ (c .before .before .check-triples .ensures ∙ first-graph _ _) (c .enum-told4 .given .1)
+    ∙ sym (then-goes _ (accepted-by _ (c .before .before .before .before .before .check-nodes .ensures ∙ first-graph _ _) (c .before .before .before .enum-told .given .1)))
+
+check-node-requires : tie.Need-check-node-requires
+check-node-requires c κs = search needs
+
+returns-3 : tie.Need-returns-3
+unfolding checkAsked
+returns-3 c =
+    let few = c .before .before .before .before in
+    c .check-node .ensures
+    ∙ sym (then-goes _ (accepted-by _ (c .before .before .before .check-triples .ensures ∙ first-graph _ _) (c .before .enum-told3 .given .1)))
+    ∙ sym (then-goes _ (accepted-by _ (few .before .before .check-nodes .ensures ∙ first-graph _ _) (few .enum-told .given .1)))
 
 pub check-asked-spec : {M : Type 1} → statement M
 check-asked-spec =
     tie.close
     (tie.spec
-    nodes-ok-requires
-    returns
-    triples-bad-requires
-    enum-known-p
-    returns-2
+    check-nodes-requires
     enum-told
-    returns-3
-    returns-4)
+    enum-told-2
+    returns
+    check-triples-requires
+    enum-told-3
+    enum-told-4
+    returns-2
+    check-node-requires
+    returns-3)

@@ -1,74 +1,86 @@
--- `borrow_analysis::graph::check_graphs` meets its contract. Assumes nothing.
-use native.Mathlib.Omega.{arith}
-use mathlib.Core.Path.{sym, ap, _∙_}
-use borrow.Author.Tests.{not-true, not-false}
-use Rattle.borrow_analysis.specs.Answers.{spotOf}
-use Rattle.borrow_analysis.specs.GraphLaws.{place-small, graphs-nodes, graphs-nodes-next, graphs-triples, graphs-triples-next, graphs-fine}
+-- `borrow_analysis::graph::check_graphs` meets its contract: a refusal is the answer, and an accepted check hands over to the next. Assumes nothing.
 use borrow.Author.Needs.{needs}
+use mathlib.Core.Path.{sym, _∙_}
+use Rattle.base.specs.RefusalLaws.{then-goes, refused-by, accepted-by}
+use Rattle.borrow_analysis.specs.Graph.{checkGraphs}
+use Rattle.borrow_analysis.specs.GraphLaws.{first-graph}
 use Rattle.borrow_analysis.proofs.graph.check_graphs.Statement.{statement}
 use Rattle.borrow_analysis.proofs.graph.check_graphs.Tie as tie
 
-nodes-ok-requires : tie.Need-nodes-ok-requires
-nodes-ok-requires c κs = search needs
-
-returns : tie.Need-returns
-returns c = graphs-nodes _ _ _ _ _ _ (sym (c .before .nodes-ok .ensures) ∙ not-true _ (c .if1 .taken))
-
-nodes-ok-requires-2 : tie.Need-nodes-ok-requires-2
-nodes-ok-requires-2 c κs = search needs
-
-returns-2 : tie.Need-returns-2
-returns-2 c =
-    graphs-nodes-next _ _ _ _ _ _ (sym (c .before .before .before .nodes-ok .ensures) ∙ not-false _ (c .before .before .if1 .left)) (sym (c .before .nodes-ok2 .ensures) ∙ not-true _ (c .if2 .taken))
-
-triples-bad-requires : tie.Need-triples-bad-requires
-triples-bad-requires c κs = search needs
-
-enum-known-p : tie.Need-enum-known-p
-enum-known-p c = search needs
-
-returns-3 : tie.Need-returns-3
-returns-3 c =
-    graphs-triples _ _ _ _ _ _ _ (sym (c .before .before .before .before .before .before .before .nodes-ok .ensures) ∙ not-false _ (c .before .before .before .before .before .before .if1 .left)) (sym (c .before .before .before .before .before .nodes-ok2 .ensures) ∙ not-false _ (c .before .before .before .before .if2 .left)) (sym (c .before .before .before .triples-bad .ensures) ∙ ap spotOf (c .before .p .given .1))
+check-nodes-requires : tie.Need-check-nodes-requires
+check-nodes-requires c κs = search needs
 
 enum-told : tie.Need-enum-told
 enum-told c = search needs
 
-triples-bad-requires-2 : tie.Need-triples-bad-requires-2
-triples-bad-requires-2 c κs = search needs
-
-enum-known-p-2 : tie.Need-enum-known-p-2
-enum-known-p-2 c = search needs
-
-add-t16 : tie.Need-add-t16
-add-t16 c = omega (arith, place-small _ _ (sym (c .before .before .before .triples-bad2 .ensures) ∙ ap spotOf (c .before .p2 .given .1)))
-
-returns-4 : tie.Need-returns-4
-returns-4 c =
-    graphs-triples-next _ _ _ _ _ _ _ (sym (c .before .before .before .before .before .before .before .before .before .before .nodes-ok .ensures) ∙ not-false _ (c .before .before .before .before .before .before .before .before .before .if1 .left)) (sym (c .before .before .before .before .before .before .before .before .nodes-ok2 .ensures) ∙ not-false _ (c .before .before .before .before .before .before .before .if2 .left)) (sym (c .before .before .before .before .before .before .triples-bad .ensures) ∙ ap spotOf (c .before .before .before .before .enum-told .given .1)) (sym (c .before .before .before .triples-bad2 .ensures) ∙ ap spotOf (c .before .p2 .given .1))
-
 enum-told-2 : tie.Need-enum-told-2
 enum-told-2 c = search needs
 
-returns-5 : tie.Need-returns-5
-returns-5 c =
-    graphs-fine _ _ _ _ _ _ (sym (c .before .before .before .before .before .before .before .before .before .nodes-ok .ensures) ∙ not-false _ (c .before .before .before .before .before .before .before .before .if1 .left)) (sym (c .before .before .before .before .before .before .before .nodes-ok2 .ensures) ∙ not-false _ (c .before .before .before .before .before .before .if2 .left)) (sym (c .before .before .before .before .before .triples-bad .ensures) ∙ ap spotOf (c .before .before .before .enum-told .given .1)) (sym (c .before .before .triples-bad2 .ensures) ∙ ap spotOf (c .enum-told2 .given .1))
+returns : tie.Need-returns
+unfolding checkGraphs
+returns c = refused-by _ _ _ (c .before .before .check-nodes .ensures ∙ first-graph _ _) (c .enum-told2 .given .1)
+
+check-nodes-requires-2 : tie.Need-check-nodes-requires-2
+check-nodes-requires-2 c κs = search needs
+
+enum-told-3 : tie.Need-enum-told-3
+enum-told-3 c = search needs
+
+enum-told-4 : tie.Need-enum-told-4
+enum-told-4 c = search needs
+
+returns-2 : tie.Need-returns-2
+unfolding checkGraphs
+returns-2 c =
+    refused-by _ _ _ (c .before .before .check-nodes2 .ensures) (c .enum-told4 .given .1)
+    ∙ sym (then-goes _ (accepted-by _ (c .before .before .before .before .before .check-nodes .ensures ∙ first-graph _ _) (c .before .before .before .enum-told .given .1)))
+
+check-triples-requires : tie.Need-check-triples-requires
+check-triples-requires c κs = search needs
+
+enum-told-5 : tie.Need-enum-told-5
+enum-told-5 c = search needs
+
+enum-told-6 : tie.Need-enum-told-6
+enum-told-6 c = search needs
+
+returns-3 : tie.Need-returns-3
+unfolding checkGraphs
+returns-3 c =
+    let next = c .before .before .before in
+    let few = next .before .before .before in
+    refused-by _ _ _ (c .before .before .check-triples .ensures ∙ first-graph _ _) (c .enum-told6 .given .1)
+    ∙ sym (then-goes _ (accepted-by _ (next .before .before .check-nodes2 .ensures) (next .enum-told3 .given .1)))
+    ∙ sym (then-goes _ (accepted-by _ (few .before .before .check-nodes .ensures ∙ first-graph _ _) (few .enum-told .given .1)))
+
+check-triples-requires-2 : tie.Need-check-triples-requires-2
+check-triples-requires-2 c κs = search needs
+
+returns-4 : tie.Need-returns-4
+unfolding checkGraphs
+returns-4 c =
+    let next = c .before .before .before .before in
+    let few = next .before .before .before in
+    c .check-triples2 .ensures
+    ∙ sym (then-goes _ (accepted-by _ (c .before .before .before .check-triples .ensures ∙ first-graph _ _) (c .before .enum-told5 .given .1)))
+    ∙ sym (then-goes _ (accepted-by _ (next .before .before .check-nodes2 .ensures) (next .enum-told3 .given .1)))
+    ∙ sym (then-goes _ (accepted-by _ (few .before .before .check-nodes .ensures ∙ first-graph _ _) (few .enum-told .given .1)))
 
 pub check-graphs-spec : {M : Type 1} → statement M
 check-graphs-spec =
     tie.close
     (tie.spec
-    nodes-ok-requires
-    returns
-    nodes-ok-requires-2
-    returns-2
-    triples-bad-requires
-    enum-known-p
-    returns-3
+    check-nodes-requires
     enum-told
-    triples-bad-requires-2
-    enum-known-p-2
-    add-t16
-    returns-4
     enum-told-2
-    returns-5)
+    returns
+    check-nodes-requires-2
+    enum-told-3
+    enum-told-4
+    returns-2
+    check-triples-requires
+    enum-told-5
+    enum-told-6
+    returns-3
+    check-triples-requires-2
+    returns-4)

@@ -1,102 +1,51 @@
 -- `borrow_analysis::graph::triple_ok` meets its contract. Assumes nothing.
-use Rattle.borrow_analysis.specs.GraphLaws.{triple-parent, triple-child, triple-first, triple-order}
 use borrow.Author.Needs.{needs}
+use borrow.Author.Tests.{lt-ltb, le-ltb, eq-eqb, ne-eqb}
+use mathlib.Core.Path.{refl, sym, ap, _∙_}
+use mathlib.Core.Bool.{true, false}
+use lib.Dec.{ltb}
+use Rattle.borrow_analysis.specs.declared.triples.Triple.{Triple}
+use Rattle.borrow_analysis.specs.Graph.{rank}
+use Rattle.borrow_analysis.specs.GraphLaws.{triple-is}
 use Rattle.borrow_analysis.proofs.graph.triple_ok.Statement.{statement}
 use Rattle.borrow_analysis.proofs.graph.triple_ok.Tie as tie
 
-mul-at : tie.Need-mul-at
-mul-at c = search needs
-
-mul-parent : tie.Need-mul-parent
-mul-parent c = search needs
-
-shared-slice-read-parent : tie.Need-shared-slice-read-parent
-shared-slice-read-parent c = search needs
-
-add-child : tie.Need-add-child
-add-child c = search needs
-
-mul-child : tie.Need-mul-child
-mul-child c = search needs
-
-shared-slice-read-child : tie.Need-shared-slice-read-child
-shared-slice-read-child c = search needs
-
-add-edge : tie.Need-add-edge
-add-edge c = search needs
-
-mul-edge : tie.Need-mul-edge
-mul-edge c = search needs
-
-shared-slice-read-edge : tie.Need-shared-slice-read-edge
-shared-slice-read-edge c = search needs
+triple-at-requires : tie.Need-triple-at-requires
+triple-at-requires c κs = search needs
 
 returns : tie.Need-returns
-returns c = triple-parent _ _ _ (c .if1 .taken)
+returns c = triple-is _ _ _ (c .before .before .triple-at .ensures) false _ _ _ (le-ltb _ _ (c .if1 .taken)) refl refl refl
 
 returns-2 : tie.Need-returns-2
-returns-2 c = triple-child _ _ _ (c .before .if1 .left) (c .if2 .taken)
+returns-2 c = triple-is _ _ _ (c .before .before .before .before .triple-at .ensures) true false _ _ (lt-ltb _ _ (c .before .before .if1 .left)) (le-ltb _ _ (c .if2 .taken)) refl refl
 
 returns-3 : tie.Need-returns-3
-returns-3 c = triple-first _ _ _ (c .before .before .if1 .left) (c .before .if2 .left) (c .if3 .taken)
+returns-3 c = triple-is _ _ _ (c .before .before .before .before .before .triple-at .ensures) true true true _ (lt-ltb _ _ (c .before .before .before .if1 .left)) (lt-ltb _ _ (c .before .if2 .left)) (eq-eqb _ _ (c .if3 .taken)) refl
 
-sub-precedes : tie.Need-sub-precedes
-sub-precedes c = search needs
+sub-triple-at : tie.Need-sub-triple-at
+sub-triple-at c = search needs
 
-mul-precedes : tie.Need-mul-precedes
-mul-precedes c = search needs
-
-shared-slice-read-precedes : tie.Need-shared-slice-read-precedes
-shared-slice-read-precedes c = search needs
-
-sub-precedes-2 : tie.Need-sub-precedes-2
-sub-precedes-2 c = search needs
-
-mul-precedes-2 : tie.Need-mul-precedes-2
-mul-precedes-2 c = search needs
-
-shared-slice-read-precedes-2 : tie.Need-shared-slice-read-precedes-2
-shared-slice-read-precedes-2 c = search needs
-
-sub-precedes-3 : tie.Need-sub-precedes-3
-sub-precedes-3 c = search needs
-
-mul-precedes-3 : tie.Need-mul-precedes-3
-mul-precedes-3 c = search needs
-
-shared-slice-read-precedes-3 : tie.Need-shared-slice-read-precedes-3
-shared-slice-read-precedes-3 c = search needs
+triple-at-requires-2 : tie.Need-triple-at-requires-2
+triple-at-requires-2 c κs = search needs
 
 precedes-requires : tie.Need-precedes-requires
 precedes-requires c κs = search needs
 
 returns-4 : tie.Need-returns-4
-returns-4 c = triple-order _ _ _ (c .before .before .before .before .before .before .if1 .left) (c .before .before .before .before .before .if2 .left) (c .before .before .before .before .if3 .left) _ (c .precedes .ensures)
+returns-4 c =
+    let p = c .before .before .before .before .before in
+    triple-is _ _ _ (p .before .before .triple-at .ensures) true true false _ (lt-ltb _ _ (p .if1 .left)) (lt-ltb _ _ (c .before .before .before .if2 .left)) (ne-eqb _ _ (c .before .before .if3 .left))
+    (sym (c .precedes .ensures ∙ ap (λ (u : Triple). ltb (rank u) (rank (p .before .before .triple-at .result))) (c .before .triple-at2 .ensures)))
 
 pub triple-ok-spec : {M : Type 1} → statement M
 triple-ok-spec =
     tie.close
     (tie.spec
-    mul-at
-    mul-parent
-    shared-slice-read-parent
-    add-child
-    mul-child
-    shared-slice-read-child
-    add-edge
-    mul-edge
-    shared-slice-read-edge
+    triple-at-requires
     returns
     returns-2
     returns-3
-    sub-precedes
-    mul-precedes
-    shared-slice-read-precedes
-    sub-precedes-2
-    mul-precedes-2
-    shared-slice-read-precedes-2
-    sub-precedes-3
-    mul-precedes-3
-    shared-slice-read-precedes-3
+    sub-triple-at
+    triple-at-requires-2
     precedes-requires
     returns-4)

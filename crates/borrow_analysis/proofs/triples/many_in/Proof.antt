@@ -1,42 +1,51 @@
 -- `borrow_analysis::triples::many_in` meets its contract. Assumes nothing.
-use mathlib.Core.Logic.{⊎-elim}
-use mathlib.Core.Path.{ap, _∙_}
-use Prim.Native.Nat.{_-_, _≤_}
-use Rattle.base.specs.Lists.{tab}
-use Rattle.dataflow_domains.specs.Sets.{mask}
-use Rattle.borrow_analysis.specs.Graph.{tripleAt}
-use Rattle.borrow_analysis.specs.TripleLaws.{Counted, counted-none, counted-more, counted-new, counted-all}
 use borrow.Author.Needs.{needs}
 use native.Mathlib.Omega.{arith}
+use mathlib.Core.Logic.{⊎-elim}
+use mathlib.Core.Path.{_≡_, refl, ap, _∙_}
+use Prim.Native.Nat.{_-_, _≤_}
+use lib.ListN.{length}
+use Rattle.base.specs.Lists.{tab}
+use Rattle.base.specs.Sizes.{maxLocals}
+use Rattle.dataflow_domains.specs.Sets.{mask}
+use Rattle.borrow_analysis.specs.Graph.{tripleAt}
+use Rattle.borrow_analysis.specs.GraphParts.{IncomingCounted}
+use Rattle.borrow_analysis.specs.TripleLaws.{counted-none, counted-more, counted-new, counted-all}
 use Rattle.borrow_analysis.proofs.triples.many_in.Statement.{statement}
 use Rattle.borrow_analysis.proofs.triples.many_in.Tie as tie
 
 abbrev Inv-loop : tie.InvT-loop
-Inv-loop triples n once₀ many₀ i₀ once many i = (i ≤ n) × Counted (tab i 0 (tripleAt triples)) (mask once) (mask many)
+Inv-loop triples n last₀ many₀ i₀ last many i = (i ≤ n) × (length last ≡ maxLocals) × IncomingCounted (tab i 0 (tripleAt triples)) n i last (mask many)
 
 abbrev μ-loop : tie.MeasureT-loop
-μ-loop triples n once₀ many₀ i₀ once many i = n - i
+μ-loop triples n last₀ many₀ i₀ last many i = n - i
 
 empty-requires : tie.Need-empty-requires Inv-loop μ-loop
 empty-requires c κs = search needs
 
-empty-requires-2 : tie.Need-empty-requires-2 Inv-loop μ-loop
-empty-requires-2 c κs = search needs
-
 loop-holds : tie.Need-loop-holds Inv-loop μ-loop
-loop-holds c = (search needs, counted-none _ (c .before .empty .ensures) (c .empty2 .ensures))
+loop-holds c = (search needs, search needs, counted-none _ _ (c .empty .ensures))
 
-child-at-requires : tie.Need-child-at-requires Inv-loop μ-loop
-child-at-requires c κs = search needs
+lead-at-requires : tie.Need-lead-at-requires Inv-loop μ-loop
+lead-at-requires c κs = search needs
 
-has-requires : tie.Need-has-requires Inv-loop μ-loop
-has-requires c κs = search needs
+u8-to-usize-requires : tie.Need-u8-to-usize-requires Inv-loop μ-loop
+u8-to-usize-requires c κs = search needs
+
+mul-if1 : tie.Need-mul-if1 Inv-loop μ-loop
+mul-if1 c = search needs
+
+array-read-if1 : tie.Need-array-read-if1 Inv-loop μ-loop
+array-read-if1 c = search needs
 
 insert-requires : tie.Need-insert-requires Inv-loop μ-loop
 insert-requires c κs = search needs
 
-insert-requires-2 : tie.Need-insert-requires-2 Inv-loop μ-loop
-insert-requires-2 c κs = search needs
+mul-last : tie.Need-mul-last Inv-loop μ-loop
+mul-last c = search needs
+
+array-write-last : tie.Need-array-write-last Inv-loop μ-loop
+array-write-last c = search needs
 
 add-i : tie.Need-add-i Inv-loop μ-loop
 add-i c = search needs
@@ -45,15 +54,19 @@ loop-less : tie.Need-loop-less Inv-loop μ-loop
 loop-less c = search needs
 
 loop-again : tie.Need-loop-again Inv-loop μ-loop
-loop-again c = (
-  omega arith,
-  ⊎-elim (λ w. counted-more _ (c .before .before .before .before .before .loop .inv .1) (c .before .before .before .child-at .ensures .0) (c .before .before .has .ensures) (c .insert2 .ensures) (w .0 .taken) (ap mask (w .2) ∙ w .1 .ensures))
-      (λ w. counted-new _ (c .before .before .before .before .before .loop .inv .1) (c .before .before .before .child-at .ensures .0) (c .before .before .has .ensures) (c .insert2 .ensures) (w .0 .left) (ap mask (w .1)))
-      (c .before .if1 .came),
-)
+loop-again c =
+    let t = c .before .before in
+    let l = t .before .before .loop in
+    let r = t .lead-at .ensures in (
+      omega arith,
+      search needs,
+      ⊎-elim (λ w. counted-more _ (l .inv .2) (l .inv .1) (r .4) (r .2) (c .before .u8-to-usize .ensures .0) (r .0) refl (t .before .loop-test .taken) (w .0 .taken) (ap mask (w .2) ∙ w .1 .ensures))
+          (λ w. counted-new _ (l .inv .2) (l .inv .1) (r .4) (r .2) (c .before .u8-to-usize .ensures .0) (r .0) refl (w .0 .left) (ap mask (w .1)))
+          (c .if1 .came),
+    )
 
 returns : tie.Need-returns Inv-loop μ-loop
-returns c = counted-all _ (omega arith) (c .before .loop .inv .1)
+returns c = counted-all _ (omega arith) (c .before .loop .inv .2)
 
 pub many-in-spec : {M : Type 1} → statement M
 many-in-spec =
@@ -62,12 +75,14 @@ many-in-spec =
     Inv-loop
     μ-loop
     empty-requires
-    empty-requires-2
     loop-holds
-    child-at-requires
-    has-requires
+    lead-at-requires
+    u8-to-usize-requires
+    mul-if1
+    array-read-if1
     insert-requires
-    insert-requires-2
+    mul-last
+    array-write-last
     add-i
     loop-less
     loop-again

@@ -37,10 +37,12 @@ loop-less : tie.Need-loop-less Inv-loop μ-loop
 loop-less c = search needs
 
 loop-again : tie.Need-loop-again Inv-loop μ-loop
-loop-again c = (
-  omega arith,
-  c .before .before .before .before .loop .inv .1 ∙ upward-more _ _ _ _ (c .before .before .before .loop-test .taken) ∙ ap (upward (c .before .before .before .before .before .before .args .times - (c .before .before .before .before .loop .k + 1)) (triplesOf (c .before .before .before .before .before .before .args .triples .now))) (sym (c .before .before .parents-in .ensures)),
-)
+loop-again c =
+    let turn = c .before .before .before .before in
+    let a = turn .before .before .args in (
+      omega arith,
+      turn .loop .inv .1 ∙ upward-more _ _ _ _ (c .before .before .before .loop-test .taken) ∙ ap (upward (a .times - (turn .loop .k + 1)) (triplesOf (a .triples .now))) (sym (c .before .before .parents-in .ensures)),
+    )
 
 returns-2 : tie.Need-returns-2 Inv-loop μ-loop
 returns-2 c = sym (c .before .loop .inv .1 ∙ upward-end _ _ _ _ (c .loop-test .left))

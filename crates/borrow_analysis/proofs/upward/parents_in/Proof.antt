@@ -1,32 +1,33 @@
 -- `borrow_analysis::upward::parents_in` meets its contract. Assumes nothing.
+use borrow.Author.Needs.{needs}
+use native.Mathlib.Omega.{arith}
 use mathlib.Core.Logic.{⊎-elim}
 use mathlib.Core.Path.{ap, _∙_}
 use Prim.Native.Nat.{_-_, _≤_}
 use Rattle.dataflow_domains.specs.Sets.{mask}
 use Rattle.borrow_analysis.specs.Graph.{tripleAt}
-use Rattle.borrow_analysis.specs.UpwardLaws.{Growing, growing-none, growing-more, growing-same, growing-all}
-use borrow.Author.Needs.{needs}
-use native.Mathlib.Omega.{arith}
+use Rattle.borrow_analysis.specs.GraphParts.{ParentsAdded}
+use Rattle.borrow_analysis.specs.UpwardLaws.{added-none, added-more, added-same, added-all}
 use Rattle.borrow_analysis.proofs.upward.parents_in.Statement.{statement}
 use Rattle.borrow_analysis.proofs.upward.parents_in.Tie as tie
 
 abbrev Inv-loop : tie.InvT-loop
-Inv-loop triples set n grown₀ i₀ grown i = (i ≤ n) × Growing (tripleAt triples) n (mask set) i (mask grown)
+Inv-loop triples set n grown₀ i₀ grown i = (i ≤ n) × ParentsAdded (tripleAt triples) n (mask set) i (mask grown)
 
 abbrev μ-loop : tie.MeasureT-loop
 μ-loop triples set n grown₀ i₀ grown i = n - i
 
 loop-holds : tie.Need-loop-holds Inv-loop μ-loop
-loop-holds c = (search needs, growing-none _ _ _)
+loop-holds c = (search needs, added-none _ _ _)
 
-child-at-requires : tie.Need-child-at-requires Inv-loop μ-loop
-child-at-requires c κs = search needs
+lead-at-requires : tie.Need-lead-at-requires Inv-loop μ-loop
+lead-at-requires c κs = search needs
 
 has-requires : tie.Need-has-requires Inv-loop μ-loop
 has-requires c κs = search needs
 
-parent-at-requires : tie.Need-parent-at-requires Inv-loop μ-loop
-parent-at-requires c κs = search needs
+cast-insert : tie.Need-cast-insert Inv-loop μ-loop
+cast-insert c = search needs
 
 insert-requires : tie.Need-insert-requires Inv-loop μ-loop
 insert-requires c κs = search needs
@@ -38,15 +39,18 @@ loop-less : tie.Need-loop-less Inv-loop μ-loop
 loop-less c = search needs
 
 loop-again : tie.Need-loop-again Inv-loop μ-loop
-loop-again c = (
-  omega arith,
-  ⊎-elim (λ w. growing-more _ _ _ (c .before .before .before .loop-test .taken) (c .before .before .before .before .loop .inv .1) (c .before .before .child-at .ensures .0) (c .before .has .ensures) (w .0 .taken) (w .1 .ensures .0) (ap mask (w .3) ∙ w .2 .ensures))
-      (λ w. growing-same _ _ _ (c .before .before .before .loop-test .taken) (c .before .before .before .before .loop .inv .1) (c .before .before .child-at .ensures .0) (c .before .has .ensures) (w .0 .left) (ap mask (w .1)))
-      (c .if1 .came),
-)
+loop-again c =
+    let t = c .before .before in
+    let l = t .before .before .loop in
+    let r = t .lead-at .ensures in (
+      omega arith,
+      ⊎-elim (λ w. added-more _ _ _ (t .before .loop-test .taken) (l .inv .1) (r .2) (c .before .has .ensures) (w .0 .taken) (r .1) (ap mask (w .3) ∙ w .2 .ensures))
+          (λ w. added-same _ _ _ (t .before .loop-test .taken) (l .inv .1) (r .2) (c .before .has .ensures) (w .0 .left) (ap mask (w .1)))
+          (c .if1 .came),
+    )
 
 returns : tie.Need-returns Inv-loop μ-loop
-returns c = growing-all _ _ _ (c .before .loop .i) _ (c .loop-test .left) (c .before .loop .inv .1)
+returns c = added-all _ _ _ (c .before .loop .i) _ (c .loop-test .left) (c .before .loop .inv .1)
 
 pub parents-in-spec : {M : Type 1} → statement M
 parents-in-spec =
@@ -55,9 +59,9 @@ parents-in-spec =
     Inv-loop
     μ-loop
     loop-holds
-    child-at-requires
+    lead-at-requires
     has-requires
-    parent-at-requires
+    cast-insert
     insert-requires
     add-i
     loop-less

@@ -2,7 +2,7 @@
 use mathlib.Core.Path.{_≡_, ap}
 use Prim.Native.Nat.{_+_, _≤_}
 use lib.ListN.{length}
-use Rattle.listing.specs.Lines.{decimal}
+use Rattle.listing.specs.Words.{decimal}
 use Rattle.listing.specs.NumberLaws.{decimal-small, decimal-short, digit-less}
 use borrow.Author.Needs.{needs}
 use native.Mathlib.Omega.{arith}

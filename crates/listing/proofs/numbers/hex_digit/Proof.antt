@@ -1,6 +1,6 @@
 -- `listing::numbers::hex_digit` meets its contract. Assumes nothing.
 use borrow.Author.Tests.{lt-ltb, le-ltb}
-use Rattle.listing.specs.Lines.{hexDigit}
+use Rattle.listing.specs.Words.{hexDigit}
 use borrow.Author.Needs.{needs}
 use Rattle.listing.proofs.numbers.hex_digit.Statement.{statement}
 use Rattle.listing.proofs.numbers.hex_digit.Tie as tie

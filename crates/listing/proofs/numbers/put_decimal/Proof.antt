@@ -2,8 +2,8 @@
 use mathlib.Core.Path.{sym, ap, subst}
 use Prim.Native.Nat.{ℕ, _+_}
 use lib.ListN.{length, set, length-append, length-set}
-use Rattle.listing.specs.Lines.{decimal}
-use Rattle.base.specs.PutLaws.{Put}
+use Rattle.listing.specs.Words.{decimal}
+use Rattle.base.specs.Put.{Put}
 use Rattle.listing.specs.NumberLaws.{digit-less, decimal-small, Ending, ending-none, ending-more, ending-all}
 use borrow.Author.Needs.{needs}
 use native.Mathlib.Omega.{arith}

@@ -3,10 +3,9 @@ use mathlib.Core.Path.{_≡_, refl, sym, ap, _∙_}
 use Prim.Native.Nat.{_+_, _-_, _*_, _≤_}
 use lib.ListN.{length, length-set}
 use lib.Seq.{paste, paste-zero}
-use Rattle.base.specs.Bytes.{number}
+use Rattle.base.specs.Bytes.{number, Bytes}
 use Rattle.base.specs.Sizes.{setBytes}
-use Rattle.sheet.specs.AcceptedLaws.{Bytes}
-use Rattle.listing.specs.Lines.{hex}
+use Rattle.listing.specs.Words.{hex}
 use Rattle.base.specs.PutLaws.{put-paste, paste-two}
 use Rattle.listing.specs.NumberLaws.{hex-length, hex-high, hex-low}
 use borrow.Author.Needs.{needs}

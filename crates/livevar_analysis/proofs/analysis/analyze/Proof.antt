@@ -1,54 +1,107 @@
--- `livevar_analysis::analysis::analyze` meets its contract: the rules are those of the code. Assumes nothing.
-use native.Mathlib.Omega.{arith}
+-- `analysis::analyze` meets its contract: the rules, the graph, the run, and the sets as bytes. Assumes nothing.
+use mathlib.Core.Path.{_∙_}
 use borrow.Author.Needs.{needs}
-use mathlib.Core.Path.{_≡_, refl, sym, ap, _∙_}
-use Rattle.sheet.specs.Valid.{accepted-valid}
-use Rattle.sheet.specs.CheckLaws.{code-length, code-sound}
-use Rattle.livevar_analysis.specs.LookupLaws.{all-keys, order-inside, heads-inside, lookups, count-of, few-count, keys-of}
+use Rattle.base.specs.ListLaws.{copies-at}
+use Rattle.stackless_control_flow_graph.specs.CheckedSheetLaws.{checked-shaped}
+use Rattle.livevar_analysis.specs.PreparedLaws.{rule-words, node-words, zeros-long, rule-room, blank-graph, solve-input, can-solve, can-write, live-written}
 use Rattle.livevar_analysis.proofs.analysis.analyze.Statement.{statement}
 use Rattle.livevar_analysis.proofs.analysis.analyze.Tie as tie
 
 slice-aggregate-decode-rules : tie.Need-slice-aggregate-decode-rules
 slice-aggregate-decode-rules c = search needs
 
-slice-aggregate-decode-rules-2 : tie.Need-slice-aggregate-decode-rules-2
-slice-aggregate-decode-rules-2 c = search needs
-
-slice-aggregate-decode-rules-3 : tie.Need-slice-aggregate-decode-rules-3
-slice-aggregate-decode-rules-3 c = search needs
-
 decode-rules-requires : tie.Need-decode-rules-requires
-decode-rules-requires c κs = let few = few-count _ _ (c .before .before .before .before .before .before .pre .0 .accepted) (c .before .before .before .before .before .before .pre .0 .count ∙ sym (code-length (c .before .before .before .before .before .before .args .sheet .now))) in (c .before .before .before .before .before .before .pre .0 .accepted, c .before .before .before .before .before .before .pre .0 .count, record { kills-fit = omega (arith, few); gens-fit = omega (arith, few); assigns-fit = few })
+decode-rules-requires c κs = let p = c .before .before .before .before .pre .0 in (p .accepted, p .count, rule-room _ _ (checked-shaped p .few) (zeros-long rule-words))
 
-slice-aggregate-with-blocks : tie.Need-slice-aggregate-with-blocks
-slice-aggregate-with-blocks c = search needs
+slice-aggregate-graph-of : tie.Need-slice-aggregate-graph-of
+slice-aggregate-graph-of c = search needs
 
-slice-aggregate-with-blocks-2 : tie.Need-slice-aggregate-with-blocks-2
-slice-aggregate-with-blocks-2 c = search needs
+slice-aggregate-graph-of-2 : tie.Need-slice-aggregate-graph-of-2
+slice-aggregate-graph-of-2 c = search needs
 
-slice-aggregate-with-blocks-3 : tie.Need-slice-aggregate-with-blocks-3
-slice-aggregate-with-blocks-3 c = search needs
+slice-aggregate-graph-of-3 : tie.Need-slice-aggregate-graph-of-3
+slice-aggregate-graph-of-3 c = search needs
 
-with-blocks-requires : tie.Need-with-blocks-requires
-with-blocks-requires c κs = let few = few-count _ _ (c .before .before .before .before .before .before .before .before .before .before .before .before .before .before .pre .0 .accepted) refl in (c .before .before .before .before .before .before .before .before .before .before .before .before .before .before .pre .0, record { ruled = c .before .before .before .before .before .before .before .decode-rules .ensures; room = record { kills-fit = omega (arith, few, c .before .before .before .before .before .before .before .decode-rules .kept .1 .1 .0); gens-fit = omega (arith, few, c .before .before .before .before .before .before .before .decode-rules .kept .1 .1 .1 .0); assigns-fit = omega (arith, few, c .before .before .before .before .before .before .before .decode-rules .kept .1 .1 .1 .1 .0) } }, c .before .before .before .before .before .before .before .before .before .before .before .before .before .before .pre .1)
+slice-aggregate-graph-of-4 : tie.Need-slice-aggregate-graph-of-4
+slice-aggregate-graph-of-4 c = search needs
+
+slice-aggregate-graph-of-5 : tie.Need-slice-aggregate-graph-of-5
+slice-aggregate-graph-of-5 c = search needs
+
+graph-of-requires : tie.Need-graph-of-requires
+graph-of-requires c κs = (c .before .before .before .before .before .before .before .before .before .before .before .pre .0, blank-graph)
+
+slice-aggregate-solve : tie.Need-slice-aggregate-solve
+slice-aggregate-solve c = search needs
+
+slice-aggregate-solve-2 : tie.Need-slice-aggregate-solve-2
+slice-aggregate-solve-2 c = search needs
+
+slice-aggregate-solve-3 : tie.Need-slice-aggregate-solve-3
+slice-aggregate-solve-3 c = search needs
+
+slice-aggregate-solve-4 : tie.Need-slice-aggregate-solve-4
+slice-aggregate-solve-4 c = search needs
+
+slice-aggregate-solve-5 : tie.Need-slice-aggregate-solve-5
+slice-aggregate-solve-5 c = search needs
+
+slice-aggregate-solve-6 : tie.Need-slice-aggregate-solve-6
+slice-aggregate-solve-6 c = search needs
+
+solve-requires : tie.Need-solve-requires
+solve-requires c κs =
+    let d = c .before .before .before .before .before .before .before .before .before .before .before .before .before .before .before .before .before .before .decode-rules in
+    can-solve (c .before .before .before .before .before .before .before .before .before .before .before .before .before .before .before .before .before .before .before .before .before .before .before .pre .0) (d .ensures) (d .kept .1 .1 .0 ∙ zeros-long rule-words) (c .before .before .before .before .before .before .before .before .before .before .before .graph-of .ensures) (zeros-long node-words) (λ k. copies-at node-words k 0)
+
+slice-aggregate-write-info : tie.Need-slice-aggregate-write-info
+slice-aggregate-write-info c = search needs
+
+slice-aggregate-write-info-2 : tie.Need-slice-aggregate-write-info-2
+slice-aggregate-write-info-2 c = search needs
+
+slice-aggregate-write-info-3 : tie.Need-slice-aggregate-write-info-3
+slice-aggregate-write-info-3 c = search needs
+
+write-info-requires : tie.Need-write-info-requires
+write-info-requires c κs =
+    let c29 = c .before .before .before .before .before .before .before .before .before .before .before .before .before .before .before .before .before .before .before .before .before .before .before .before .before .before .before .before .before in
+    let d = c .before .before .before .before .before .before .before .before .before .before .before .before .before .before .before .before .before .before .before .before .before .before .before .before .decode-rules in
+    can-write (c29 .pre .0) (d .ensures) (d .kept .1 .1 .0 ∙ zeros-long rule-words) (c .before .before .before .before .before .before .before .before .before .before .before .before .before .before .before .before .before .graph-of .ensures) (c .before .before .before .before .before .solve .kept .1 .1 .1 .1 .1 .1 .0 ∙ zeros-long node-words) (c29 .args .out .now) (c29 .pre .1)
 
 same-length : tie.Need-same-length
 same-length c = search needs
 
 returns : tie.Need-returns
-returns c = search needs
+returns c =
+    let p = c .before .before .before .before .before .before .before .before .before .before .before .before .before .before .before .before .before .before .before .before .before .before .before .before .before .before .before .before .before .before .before .before .pre .0 in
+    let d = c .before .before .before .before .before .before .before .before .before .before .before .before .before .before .before .before .before .before .before .before .before .before .before .before .before .before .before .decode-rules in
+    let long = d .kept .1 .1 .0 ∙ zeros-long rule-words in
+    let graph = c .before .before .before .before .before .before .before .before .before .before .before .before .before .before .before .before .before .before .before .before .graph-of .ensures in
+    live-written p (d .ensures) long graph (c .before .before .before .before .before .before .before .before .solve .ensures _ _ (solve-input p (d .ensures) long graph (zeros-long node-words) (λ k. copies-at node-words k 0))) (c .before .before .write-info .ensures)
 
 pub analyze-spec : {M : Type 1} → statement M
 analyze-spec =
     tie.close
     (tie.spec
     slice-aggregate-decode-rules
-    slice-aggregate-decode-rules-2
-    slice-aggregate-decode-rules-3
     decode-rules-requires
-    slice-aggregate-with-blocks
-    slice-aggregate-with-blocks-2
-    slice-aggregate-with-blocks-3
-    with-blocks-requires
+    slice-aggregate-graph-of
+    slice-aggregate-graph-of-2
+    slice-aggregate-graph-of-3
+    slice-aggregate-graph-of-4
+    slice-aggregate-graph-of-5
+    graph-of-requires
+    slice-aggregate-solve
+    slice-aggregate-solve-2
+    slice-aggregate-solve-3
+    slice-aggregate-solve-4
+    slice-aggregate-solve-5
+    slice-aggregate-solve-6
+    solve-requires
+    slice-aggregate-write-info
+    slice-aggregate-write-info-2
+    slice-aggregate-write-info-3
+    write-info-requires
     same-length
     returns)

@@ -15,16 +15,16 @@ use native.Mathlib.Omega.{arith}
 use Rattle.livevar_analysis.proofs.engine.execute_block.Statement.{statement}
 use Rattle.livevar_analysis.proofs.engine.execute_block.Tie as tie
 
-record Held (kills gens assigns : List ℕ) (lower upper m k set : ℕ) : Type 0 where
+record BlockLeft (rules : List ℕ) (lower upper m k set : ℕ) : Type 0 where
   within : k ≤ upper + 1
-  same : (code : List Bytecode) → Ruled code kills gens assigns → upper < length code
+  same : (code : List Bytecode) → Ruled code rules → upper < length code
       → executeAll (take (suc upper - lower) (drop lower code)) m ≡ executeAll (take (k - lower) (drop lower code)) set
 
 abbrev Inv-loop : tie.InvT-loop
-Inv-loop kills gens assigns lower upper k₀ set₀ k set = Held kills gens assigns lower upper (mask set₀) k (mask set)
+Inv-loop rules lower upper k₀ set₀ k set = BlockLeft rules lower upper (mask set₀) k (mask set)
 
 abbrev μ-loop : tie.MeasureT-loop
-μ-loop kills gens assigns lower upper k₀ set₀ k set = k
+μ-loop rules lower upper k₀ set₀ k set = k
 
 add-k : tie.Need-add-k Inv-loop μ-loop
 add-k c = search needs
@@ -36,13 +36,13 @@ sub-k : tie.Need-sub-k Inv-loop μ-loop
 sub-k c = search needs
 
 apply-requires : tie.Need-apply-requires Inv-loop μ-loop
-apply-requires c κs = let r = c .before .before .before .before .before .pre in record { kills-fit = omega (arith, r .kills-fit); gens-fit = omega (arith, r .gens-fit); assigns-fit = omega (arith, r .assigns-fit) }
+apply-requires c κs = record { fit = omega (arith, c .before .before .before .pre .fit) }
 
 loop-less : tie.Need-loop-less Inv-loop μ-loop
 loop-less c = search needs
 
 loop-again : tie.Need-loop-again Inv-loop μ-loop
-loop-again c = record { within = search needs; same = λ code ruled h. c .before .before .loop .inv .same code ruled h ∙ execute-more code _ _ _ (c .before .loop-test .taken) (omega arith) ∙ ap (executeAll (take (c .before .before .loop .k - 1 - c .before .before .before .before .before .before .args .lower) (drop (c .before .before .before .before .before .before .args .lower) code))) (sym (c .apply .ensures ∙ ruled .each _ _ (omega arith))) }
+loop-again c = record { within = search needs; same = λ code ruled h. c .before .before .loop .inv .same code ruled h ∙ execute-more code _ _ _ (c .before .loop-test .taken) (omega arith) ∙ ap (executeAll (take (c .before .before .loop .k - 1 - c .before .before .before .before .args .lower) (drop (c .before .before .before .before .args .lower) code))) (sym (c .apply .ensures ∙ ruled .each _ _ (omega arith))) }
 
 returns : tie.Need-returns Inv-loop μ-loop
 returns c code ruled h = sym (c .before .loop .inv .same code ruled h ∙ execute-none code _ _ _ (c .loop-test .left))

@@ -1,23 +1,23 @@
--- `livevar_analysis::engine::run` meets its contract. The loop's invariant: the slices have a state of the definition's run. The measure is what the head
+-- `engine::run` meets its contract. The loop's invariant: the slices have a state of the definition's run. The measure is what the head
 -- has still before it. Assumes nothing.
 use mathlib.Core.Path.{_≡_, sym, _∙_}
 use Prim.Native.Nat.{_+_, _-_}
 use lib.ListN.{length}
 use Rattle.dataflow_analysis.specs.QueueLaws.{Took, took-key, took-none}
-use Rattle.livevar_analysis.specs.RunLaws.{Held, held-begin, held-asks, held-head, held-more, held-done}
+use Rattle.livevar_analysis.specs.RunLaws.{Held, held-begin, held-out, held-hands, held-head, held-more, held-done}
 use borrow.Author.Needs.{needs}
 use native.Mathlib.Omega.{arith}
 use Rattle.livevar_analysis.proofs.engine.run.Statement.{statement}
 use Rattle.livevar_analysis.proofs.engine.run.Tie as tie
 
 abbrev Inv-loop : tie.InvT-loop
-Inv-loop kills gens assigns preds starts lows ups sets₀ met₀ q₀ c₀ sets met q c = Held kills gens assigns preds starts lows ups sets₀ met₀ q₀ c₀ sets met q c
+Inv-loop rules lows ups firsts edges sets₀ met₀ q₀ c₀ sets met q c = Held rules lows ups firsts edges sets₀ met₀ q₀ c₀ sets met q c
 
 abbrev μ-loop : tie.MeasureT-loop
-μ-loop kills gens assigns preds starts lows ups sets₀ met₀ q₀ c₀ sets met q c = length q₀ - c .head
+μ-loop rules lows ups firsts edges sets₀ met₀ q₀ c₀ sets met q c = length q₀ - c .head
 
 loop-holds : tie.Need-loop-holds Inv-loop μ-loop
-loop-holds c = held-begin _ _ _ _ _ _ _ _ _ _ _ (c .before .before .before .before .before .before .before .before .before .before .pre)
+loop-holds c = held-begin _ _ _ _ _ _ _ _ _ (c .before .before .before .before .before .before .before .before .pre)
 
 take-requires : tie.Need-take-requires Inv-loop μ-loop
 take-requires c κs = search needs
@@ -29,26 +29,29 @@ enum-known-k c = search needs
 took : (c : tie.After-k Inv-loop μ-loop) → Took (c .before .before .before .before .loop .q) (c .before .before .before .before .loop .c) (c .k .given .0 .0) (c .k .given .0 .1 .0)
 took c = took-key _ _ _ _ (c .before .before .before .before .loop .inv .list-fits) (sym (c .k .given .1) ∙ c .before .before .take .ensures)
 
-step-requires : tie.Need-step-requires Inv-loop μ-loop
-step-requires c κs = held-asks _ _ _ _ _ _ _ _ _ _ _ (c .before .before .before .before .before .before .before .before .before .before .before .before .before .before .before .before .before .before .before .pre) _ _ _ _ (c .before .before .before .before .before .before .before .before .loop .inv) _ _ (took (c .before .before .before .before))
+out-of-requires : tie.Need-out-of-requires Inv-loop μ-loop
+out-of-requires c κs = held-out _ _ _ _ _ _ _ _ _ (c .before .before .before .before .before .before .before .before .before .before .before .before .before .before .before .pre) _ _ _ _ (c .before .before .before .before .before .before .loop .inv) _ _ (took (c .before .before))
+
+hand-key-requires : tie.Need-hand-key-requires Inv-loop μ-loop
+hand-key-requires c κs = held-hands _ _ _ _ _ _ _ _ _ (c .before .before .before .before .before .before .before .before .before .before .before .before .before .before .before .before .before .before .before .pre) _ _ _ _ (c .before .before .before .before .before .before .before .before .before .before .loop .inv) _ _ (took (c .before .before .before .before .before .before)) _ (c .before .before .before .out-of .ensures)
 
 loop-less : tie.Need-loop-less Inv-loop μ-loop
 loop-less c =
-    let t = took (c .before .before .before .before .before .before .before .before .before .before .before) in
-    let inv = c .before .before .before .before .before .before .before .before .before .before .before .before .before .before .before .loop .inv in
-    let moved : c .before .before .before .before .before .before .step .result .head ≡ c .before .before .before .before .before .before .before .before .before .before .before .before .before .before .before .loop .c .head + 1 = held-head _ _ _ _ _ _ _ _ _ _ _ (c .before .before .before .before .before .before .before .before .before .before .before .before .before .before .before .before .before .before .before .before .before .before .before .before .before .before .pre) _ _ _ _ inv _ _ t _ _ _ _ (c .before .before .before .before .before .before .step .ensures) in
+    let t = took (c .before .before .before .before .before .before .before .before .before .before .before .before .before) in
+    let inv = c .before .before .before .before .before .before .before .before .before .before .before .before .before .before .before .before .before .loop .inv in
+    let moved : c .before .before .before .before .before .before .hand-key .result .head ≡ c .before .before .before .before .before .before .before .before .before .before .before .before .before .before .before .before .before .loop .c .head + 1 = held-head _ _ _ _ _ _ _ _ _ (c .before .before .before .before .before .before .before .before .before .before .before .before .before .before .before .before .before .before .before .before .before .before .before .before .before .before .pre) _ _ _ _ inv _ _ t _ (c .before .before .before .before .before .before .before .before .before .before .out-of .ensures) _ _ _ _ (c .before .before .before .before .before .before .hand-key .ensures) in
     omega (arith, moved, t .next-head, t .same-end, inv .list-fits, inv .q-kept)
 
 loop-again : tie.Need-loop-again Inv-loop μ-loop
 loop-again c =
-    let s = c .before .before .before .before .before .before .step in
-    held-more _ _ _ _ _ _ _ _ _ _ _ (c .before .before .before .before .before .before .before .before .before .before .before .before .before .before .before .before .before .before .before .before .before .before .before .before .before .before .pre) _ _ _ _ (c .before .before .before .before .before .before .before .before .before .before .before .before .before .before .before .loop .inv) _ _ (took (c .before .before .before .before .before .before .before .before .before .before .before)) _ _ _ _ (s .ensures) (s .kept .1 .1 .1 .1 .1 .1 .1 .0) (s .kept .1 .1 .1 .1 .1 .1 .1 .1 .0) (s .kept .1 .1 .1 .1 .1 .1 .1 .1 .1 .0)
+    let h = c .before .before .before .before .before .before .hand-key in
+    held-more _ _ _ _ _ _ _ _ _ (c .before .before .before .before .before .before .before .before .before .before .before .before .before .before .before .before .before .before .before .before .before .before .before .before .before .before .pre) _ _ _ _ (c .before .before .before .before .before .before .before .before .before .before .before .before .before .before .before .before .before .loop .inv) _ _ (took (c .before .before .before .before .before .before .before .before .before .before .before .before .before)) _ (c .before .before .before .before .before .before .before .before .before .before .out-of .ensures) _ _ _ _ (h .ensures) (h .kept .1 .1 .0) (h .kept .1 .1 .1 .0) (h .kept .1 .1 .1 .1 .0)
 
 enum-told : tie.Need-enum-told Inv-loop μ-loop
 enum-told c = search needs
 
 cast-result : tie.Need-cast-result Inv-loop μ-loop
-cast-result c = let inv = c .before .before .before .before .before .loop .inv in omega (arith, inv .list-fits, inv .q-kept, c .before .before .before .before .before .before .before .before .before .before .before .before .before .before .before .before .pre .begun .list-long)
+cast-result c = let inv = c .before .before .before .before .before .loop .inv in omega (arith, inv .list-fits, inv .q-kept, c .before .before .before .before .before .before .before .before .before .before .before .before .before .before .pre .begun .list-long)
 
 same-length : tie.Need-same-length Inv-loop μ-loop
 same-length c = search needs
@@ -60,7 +63,7 @@ same-length-3 : tie.Need-same-length-3 Inv-loop μ-loop
 same-length-3 c = search needs
 
 returns : tie.Need-returns Inv-loop μ-loop
-returns c code locals begun = held-done _ _ _ _ _ _ _ _ _ _ _ (c .before .before .before .before .before .before .before .before .before .before .before .before .before .before .before .before .pre) _ _ _ _ (c .before .before .before .before .before .loop .inv) (took-none _ _ (sym (c .before .enum-told .given .1) ∙ c .before .before .before .take .ensures)) code locals begun
+returns c code locals begun = held-done _ _ _ _ _ _ _ _ _ (c .before .before .before .before .before .before .before .before .before .before .before .before .before .before .pre) _ _ _ _ (c .before .before .before .before .before .loop .inv) (took-none _ _ (sym (c .before .enum-told .given .1) ∙ c .before .before .before .take .ensures)) code locals begun
 
 pub run-spec : {M : Type 1} → statement M
 run-spec =
@@ -71,7 +74,8 @@ run-spec =
     loop-holds
     take-requires
     enum-known-k
-    step-requires
+    out-of-requires
+    hand-key-requires
     loop-less
     loop-again
     enum-told

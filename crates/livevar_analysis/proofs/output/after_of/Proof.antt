@@ -1,4 +1,4 @@
--- `livevar_analysis::output::after_of` meets its contract. Assumes nothing.
+-- `output::after_of` meets its contract. Assumes nothing.
 use mathlib.Core.Path.{sym, ap, _∙_}
 use mathlib.Core.Bool.{Bool, cond}
 use lib.ListN.{getD}
@@ -12,28 +12,29 @@ use Rattle.livevar_analysis.proofs.output.after_of.Tie as tie
 ends-requires : tie.Need-ends-requires
 ends-requires c κs = search needs
 
-mul-load : tie.Need-mul-load
-mul-load c = search needs
+mul-u16-to-usize : tie.Need-mul-u16-to-usize
+mul-u16-to-usize c = search needs
 
-shared-slice-read-load : tie.Need-shared-slice-read-load
-shared-slice-read-load c = search needs
+shared-slice-read-u16-to-usize : tie.Need-shared-slice-read-u16-to-usize
+shared-slice-read-u16-to-usize c = search needs
 
-cast-load : tie.Need-cast-load
-cast-load c = omega (arith, c .shared-slice-known4 .given (c .before .before .before .before .before .before .args .k))
+u16-to-usize-requires : tie.Need-u16-to-usize-requires
+u16-to-usize-requires c κs = search needs
 
 load-requires : tie.Need-load-requires
-load-requires c κs = c .before .before .before .before .before .before .pre .0 .sets-fit (c .before .before .before .before .before .before .args .k) (c .before .before .before .before .before .before .pre .1)
+load-requires c κs = omega (arith, c .u16-to-usize .ensures .0, c .before .before .before .before .before .before .pre .0 .sets-fit (c .before .before .before .before .before .before .args .k) (c .before .before .before .before .before .before .pre .1))
 
 returns : tie.Need-returns
 unfolding afterBy
 returns c =
     let s = c .before .before .before .before .before .before .before .args in
-    c .load .ensures ∙ sym (ap (λ (b : Bool). cond b (setAt (s .sets .now) (getD (s .keys .now) (s .k) 0)) (mask (s .m))) (sym (c .before .before .before .ends .ensures) ∙ c .before .before .if1 .taken))
+    c .load .ensures ∙ ap (setAt (s .sets .now)) (c .before .u16-to-usize .ensures .0)
+    ∙ sym (ap (λ (b : Bool). cond b (setAt (s .sets .now) (getD (s .keys .now) (s .k) 0)) (mask (s .m))) (sym (c .before .before .before .before .ends .ensures) ∙ c .before .before .before .if1 .taken))
 
 returns-2 : tie.Need-returns-2
 unfolding afterBy
 returns-2 c =
-    let s = c .before .before .before .before .before .args in
+    let s = c .before .before .before .before .args in
     sym (ap (λ (b : Bool). cond b (setAt (s .sets .now) (getD (s .keys .now) (s .k) 0)) (mask (s .m))) (sym (c .before .ends .ensures) ∙ c .if1 .left))
 
 pub after-of-spec : {M : Type 1} → statement M
@@ -41,9 +42,9 @@ after-of-spec =
     tie.close
     (tie.spec
     ends-requires
-    mul-load
-    shared-slice-read-load
-    cast-load
+    mul-u16-to-usize
+    shared-slice-read-u16-to-usize
+    u16-to-usize-requires
     load-requires
     returns
     returns-2)

@@ -1,4 +1,4 @@
--- `livevar_analysis::output::ends` meets its contract. Assumes nothing.
+-- `output::ends` meets its contract. Assumes nothing.
 use Prim.Native.Nat.{_+_}
 use borrow.Author.Tests.{eq-eqb, ne-eqb}
 use borrow.Author.Needs.{needs}
@@ -14,11 +14,30 @@ returns c = rw (eq-eqb (c .before .args .k + 1) (c .before .args .n) (c .if1 .ta
 add-result : tie.Need-add-result
 add-result c = search needs
 
+mul-result : tie.Need-mul-result
+mul-result c = search needs
+
 shared-slice-read-result : tie.Need-shared-slice-read-result
 shared-slice-read-result c = search needs
 
+mul-result-2 : tie.Need-mul-result-2
+mul-result-2 c = search needs
+
+shared-slice-read-result-2 : tie.Need-shared-slice-read-result-2
+shared-slice-read-result-2 c = search needs
+
 returns-2 : tie.Need-returns-2
-returns-2 c = rw (ne-eqb (c .before .before .args .k + 1) (c .before .before .args .n) (c .before .if1 .left))
+returns-2 c = rw (ne-eqb (c .before .before .before .args .k + 1) (c .before .before .before .args .n) (c .before .before .if1 .left))
 
 pub ends-spec : {M : Type 1} → statement M
-ends-spec = tie.close (tie.spec add-if1 returns add-result shared-slice-read-result returns-2)
+ends-spec =
+    tie.close
+    (tie.spec
+    add-if1
+    returns
+    add-result
+    mul-result
+    shared-slice-read-result
+    mul-result-2
+    shared-slice-read-result-2
+    returns-2)

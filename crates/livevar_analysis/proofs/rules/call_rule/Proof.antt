@@ -11,7 +11,9 @@ set-of-requires-2 : tie.Need-set-of-requires-2
 set-of-requires-2 c κs = search needs
 
 gone-requires : tie.Need-gone-requires
-gone-requires c κs f = c .before .before .before .before .pre .0 .abort (flagged _ (c .before .before .before .before .pre .1) f)
+gone-requires c κs f =
+    let c4 = c .before .before .before .before in
+    c4 .pre .0 .abort (flagged _ (c4 .pre .1) f)
 
 union-requires : tie.Need-union-requires
 union-requires c κs = search needs

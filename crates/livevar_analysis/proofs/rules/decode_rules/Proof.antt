@@ -16,48 +16,33 @@ use native.Mathlib.Omega.{arith}
 use Rattle.livevar_analysis.proofs.rules.decode_rules.Statement.{statement}
 use Rattle.livevar_analysis.proofs.rules.decode_rules.Tie as tie
 
-record Held (sheet : List ℕ) (n : ℕ) (kills₀ gens₀ assigns₀ kills gens assigns : List ℕ) (k : ℕ) : Type 0 where
-  ruled : RuledTo (codeOf sheet) k kills gens assigns
+record DecodedTo (sheet : List ℕ) (n : ℕ) (rules₀ rules : List ℕ) (k : ℕ) : Type 0 where
+  ruled : RuledTo (codeOf sheet) k rules
   within : k ≤ n
-  kills-kept : length kills ≡ length kills₀
-  gens-kept : length gens ≡ length gens₀
-  assigns-kept : length assigns ≡ length assigns₀
+  kept : length rules ≡ length rules₀
 
 abbrev Inv-loop : tie.InvT-loop
-Inv-loop sheet n kills₀ gens₀ assigns₀ k₀ kills gens assigns k = Held sheet n kills₀ gens₀ assigns₀ kills gens assigns k
+Inv-loop sheet n rules₀ k₀ rules k = DecodedTo sheet n rules₀ rules k
 
 abbrev μ-loop : tie.MeasureT-loop
-μ-loop sheet n kills₀ gens₀ assigns₀ k₀ kills gens assigns k = n - k
+μ-loop sheet n rules₀ k₀ rules k = n - k
 
 loop-holds : tie.Need-loop-holds Inv-loop μ-loop
-loop-holds c = record {
-  ruled = ruled-none _ _ _ _;
-  within = search needs;
-  kills-kept = refl;
-  gens-kept = refl;
-  assigns-kept = refl;
-}
+loop-holds c = record { ruled = ruled-none _ _; within = search needs; kept = refl }
 
 instruction-at-requires : tie.Need-instruction-at-requires Inv-loop μ-loop
-instruction-at-requires c κs = let a = c .before .before .before .before .before .before in record-inside (a .args .sheet .now) (a .pre .0) (c .before .loop .k) (search needs)
+instruction-at-requires c κs = let a = c .before .before .before .before in record-inside (a .args .sheet .now) (a .pre .0) (c .before .loop .k) (search needs)
 
 rule-of-requires : tie.Need-rule-of-requires Inv-loop μ-loop
-rule-of-requires c κs = let a = c .before .before .before .before .before .before .before in
+rule-of-requires c κs = let a = c .before .before .before .before .before in
     subst InRange (sym (c .instruction-at .ensures)) (in-range (a .args .sheet .now) (a .pre .0) (c .before .before .loop .k) (search needs))
 
 -- there is room for one rule more
-room : (c : tie.In-loop Inv-loop μ-loop) → RuleRoom (c .before .loop .k + 1) (c .before .loop .kills) (c .before .loop .gens) (c .before .loop .assigns)
-room c =
-    let inv = c .before .loop .inv in
-    let all = c .before .before .before .before .before .before .pre .2 in
-    record {
-      kills-fit = omega (arith, all .kills-fit, inv .kills-kept);
-      gens-fit = omega (arith, all .gens-fit, inv .gens-kept);
-      assigns-fit = omega (arith, all .assigns-fit, inv .assigns-kept);
-    }
+room : (c : tie.In-loop Inv-loop μ-loop) → RuleRoom (c .before .loop .k + 1) (c .before .loop .rules)
+room c = record { fit = omega (arith, c .before .before .before .before .pre .2 .fit, c .before .loop .inv .kept) }
 
 put-rule-requires : tie.Need-put-rule-requires Inv-loop μ-loop
-put-rule-requires c κs = room (c .before .before .before .before .before)
+put-rule-requires c κs = room (c .before .before .before)
 
 add-k : tie.Need-add-k Inv-loop μ-loop
 add-k c = search needs
@@ -67,30 +52,23 @@ loop-less c = search needs
 
 loop-again : tie.Need-loop-again Inv-loop μ-loop
 loop-again c =
-    let inv = c .before .before .before .before .before .before .before .before .before .before .before .before .before .loop .inv in
-    let put = c .before .before .before .before .before .before .put-rule in
-    let a = c .before .before .before .before .before .before .before .before .before .before .before .before .before .before .before .before .before .before in
-    let inside : c .before .before .before .before .before .before .before .before .before .before .before .before .before .loop .k < countOf (a .args .sheet .now) = search needs in
-    let is : c .before .before .before .before .before .before .before .before .before .before .before .instruction-at .result ≡ at (codeOf (a .args .sheet .now)) (c .before .before .before .before .before .before .before .before .before .before .before .before .before .loop .k) = c .before .before .before .before .before .before .before .before .before .before .before .instruction-at .ensures ∙ sym (code-at (a .args .sheet .now) (a .pre .0) (c .before .before .before .before .before .before .before .before .before .before .before .before .before .loop .k) inside) in
+    let l = c .before .before .before .before .before .before .before .loop in
+    let put = c .before .before .put-rule in
+    let a = c .before .before .before .before .before .before .before .before .before .before in
+    let s = a .args .sheet .now in
+    let inside : l .k < countOf s = search needs in
+    let is : c .before .before .before .before .before .instruction-at .result ≡ at (codeOf s) (l .k) = c .before .before .before .before .before .instruction-at .ensures ∙ sym (code-at s (a .pre .0) (l .k) inside) in
     record {
-      ruled = ruled-more (codeOf (a .args .sheet .now)) (c .before .before .before .before .before .before .before .before .before .before .before .before .before .loop .k) _ _ _ _ _ _ _ _ _ (room (c .before .before .before .before .before .before .before .before .before .before .before .before)) (put .ensures) (λ m. c .before .before .before .before .before .before .before .before .before .before .rule-of .ensures m ∙ ap (λ (r : Bytecode). execute r m) is) (inv .ruled);
+      ruled = ruled-more (codeOf s) (l .k) _ _ _ _ _ (put .ensures) (λ m. c .before .before .before .before .rule-of .ensures m ∙ ap (λ (r : Bytecode). execute r m) is) (l .inv .ruled);
       within = search needs;
-      kills-kept = put .kept .1 .0 ∙ inv .kills-kept;
-      gens-kept = put .kept .1 .1 .0 ∙ inv .gens-kept;
-      assigns-kept = put .kept .1 .1 .1 .0 ∙ inv .assigns-kept;
+      kept = put .kept .1 .0 ∙ l .inv .kept;
     }
 
 same-length : tie.Need-same-length Inv-loop μ-loop
 same-length c = search needs
 
-same-length-2 : tie.Need-same-length-2 Inv-loop μ-loop
-same-length-2 c = search needs
-
-same-length-3 : tie.Need-same-length-3 Inv-loop μ-loop
-same-length-3 c = search needs
-
 returns : tie.Need-returns Inv-loop μ-loop
-returns c = ruled-all _ _ _ _ _ (omega (arith, code-length (c .before .before .before .before .before .before .args .sheet .now))) (c .before .loop .inv .ruled)
+returns c = ruled-all _ _ _ (omega (arith, code-length (c .before .before .before .before .args .sheet .now))) (c .before .loop .inv .ruled)
 
 pub decode-rules-spec : {M : Type 1} → statement M
 decode-rules-spec =
@@ -106,6 +84,4 @@ decode-rules-spec =
     loop-less
     loop-again
     same-length
-    same-length-2
-    same-length-3
     returns)

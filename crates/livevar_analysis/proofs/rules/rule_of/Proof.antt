@@ -1,6 +1,7 @@
 -- `livevar_analysis::rules::rule_of` meets its contract: each arm is the live rule of its kinds. Assumes nothing.
-use Rattle.livevar_analysis.specs.DecodeLaws.{decoded-assign, decoded-load, decoded-sources, decoded-none}
+use mathlib.Core.Path.{sym, _∙_}
 use borrow.Author.Needs.{needs}
+use Rattle.livevar_analysis.specs.DecodeLaws.{decoded-assign, decoded-load, decoded-sources, none-is}
 use Rattle.livevar_analysis.proofs.rules.rule_of.Statement.{statement}
 use Rattle.livevar_analysis.proofs.rules.rule_of.Tie as tie
 
@@ -31,11 +32,14 @@ single-requires-2 c κs = c .before .before .before .pre .dsts .each 0 (c .befor
 empty-requires-2 : tie.Need-empty-requires-2
 empty-requires-2 c κs = search needs
 
-empty-requires-3 : tie.Need-empty-requires-3
-empty-requires-3 c κs = search needs
+no-rule-requires : tie.Need-no-rule-requires
+no-rule-requires c κs = search needs
 
-empty-requires-4 : tie.Need-empty-requires-4
-empty-requires-4 c κs = search needs
+no-rule-requires-2 : tie.Need-no-rule-requires-2
+no-rule-requires-2 c κs = search needs
+
+no-rule-requires-3 : tie.Need-no-rule-requires-3
+no-rule-requires-3 c κs = search needs
 
 returns : tie.Need-returns
 returns c m = decoded-assign _ _ _ m (c .before .before .match .keys1) (c .before .single .ensures) (c .set-of .ensures)
@@ -50,7 +54,13 @@ returns-4 : tie.Need-returns-4
 returns-4 c m = decoded-load _ _ _ m (c .before .before .match .keys4) (c .before .single2 .ensures) (c .empty2 .ensures)
 
 returns-5 : tie.Need-returns-5
-returns-5 c m = let k = c .before .before .match .rest in decoded-none _ _ _ m (k .0 .0 .0 .1) (k .0 .0 .1) (k .0 .1) (k .1) (c .before .empty3 .ensures) (c .empty4 .ensures)
+returns-5 c m = let k = c .before .before .match .rest in c .no-rule .ensures m ∙ sym (none-is _ 0 0 m (k .0 .0 .0 .1) (k .0 .0 .1) (k .0 .1) (k .1))
+
+returns-6 : tie.Need-returns-6
+returns-6 c m = let k = c .before .before .before .match .rest in c .no-rule2 .ensures m ∙ sym (none-is _ 0 0 m (k .0 .0 .0 .1) (k .0 .0 .1) (k .0 .1) (k .1))
+
+returns-7 : tie.Need-returns-7
+returns-7 c m = let k = c .before .before .before .match .rest in c .no-rule3 .ensures m ∙ sym (none-is _ 0 0 m (k .0 .0 .0 .1) (k .0 .0 .1) (k .0 .1) (k .1))
 
 pub rule-of-spec : {M : Type 1} → statement M
 rule-of-spec =
@@ -65,10 +75,13 @@ rule-of-spec =
     array-read-single-2
     single-requires-2
     empty-requires-2
-    empty-requires-3
-    empty-requires-4
+    no-rule-requires
+    no-rule-requires-2
+    no-rule-requires-3
     returns
     returns-2
     returns-3
     returns-4
-    returns-5)
+    returns-5
+    returns-6
+    returns-7)

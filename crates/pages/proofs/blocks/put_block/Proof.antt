@@ -1,7 +1,7 @@
 -- `pages::blocks::put_block` meets its contract. Assumes nothing.
 use borrow.Author.Needs.{needs}
-use Rattle.pages.specs.Output.{wrote-as, wrote-then}
-use Rattle.pages.specs.PageLaws.{block-is}
+use Rattle.listing.specs.OutputLaws.{wrote-as, wrote-then}
+use Rattle.pages.specs.SectionLaws.{block-is}
 use Rattle.pages.proofs.blocks.put_block.Statement.{statement}
 use Rattle.pages.proofs.blocks.put_block.Tie as tie
 

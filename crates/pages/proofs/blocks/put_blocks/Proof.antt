@@ -1,10 +1,11 @@
 -- `pages::blocks::put_blocks` meets its contract. The lines of the first i blocks are written. Assumes nothing.
 use borrow.Author.Needs.{needs}
 use native.Mathlib.Omega.{arith}
-use mathlib.Core.Path.{_≡_}
 use Prim.Native.Nat.{_-_, _≤_}
-use Rattle.pages.specs.Output.{Wrote, wrote-as, wrote-none, wrote-then, wrote-length}
-use Rattle.pages.specs.PageLaws.{blockLines, blocks-none, blocks-more, blocks-all}
+use Rattle.listing.specs.Output.{Wrote}
+use Rattle.listing.specs.OutputLaws.{wrote-as, wrote-none, wrote-then, wrote-length}
+use Rattle.pages.specs.Parts.{blockLines}
+use Rattle.pages.specs.SectionLaws.{blocks-none, blocks-more, blocks-all}
 use Rattle.pages.proofs.blocks.put_blocks.Statement.{statement}
 use Rattle.pages.proofs.blocks.put_blocks.Tie as tie
 
@@ -13,9 +14,6 @@ Inv-loop table m out₀ at n e₀ i₀ t9 out e i = (i ≤ n) × Wrote out₀ at
 
 abbrev μ-loop : tie.MeasureT-loop
 μ-loop table m out₀ at n e₀ i₀ t9 out e i = n - i
-
-index-requires : tie.Need-index-requires Inv-loop μ-loop
-index-requires c κs = search needs
 
 loop-holds : tie.Need-loop-holds Inv-loop μ-loop
 loop-holds c = (omega arith, wrote-as (blocks-none _) (wrote-none _ _))
@@ -48,25 +46,24 @@ loop-less : tie.Need-loop-less Inv-loop μ-loop
 loop-less c = search needs
 
 loop-again : tie.Need-loop-again Inv-loop μ-loop
-loop-again c = let l = c .before .before .before .before .before .before .loop in (omega arith, wrote-as (blocks-more (c .before .before .before .before .before .before .before .before .before .before .args .table .now) (l .i)) (wrote-then (l .inv .1) (c .before .before .put-block .ensures)))
+loop-again c =
+    let l = c .before .before .before .before .before .before .loop in
+    (omega arith, wrote-as (blocks-more (c .before .before .before .before .before .before .before .before .before .args .table .now) (l .i)) (wrote-then (l .inv .1) (c .before .before .put-block .ensures)))
 
 slice-aggregate-put-total : tie.Need-slice-aggregate-put-total Inv-loop μ-loop
 slice-aggregate-put-total c = search needs
-
-wide16-requires : tie.Need-wide16-requires Inv-loop μ-loop
-wide16-requires c κs = search needs
 
 put-total-requires : tie.Need-put-total-requires Inv-loop μ-loop
 put-total-requires c κs = search needs
 
 same-length : tie.Need-same-length Inv-loop μ-loop
-same-length c = wrote-length (wrote-then (c .before .before .before .before .before .before .before .loop .inv .1) (c .before .before .put-total .ensures))
+same-length c = wrote-length (wrote-then (c .before .before .before .before .before .before .loop .inv .1) (c .before .before .put-total .ensures))
 
 returns : tie.Need-returns Inv-loop μ-loop
 returns c =
-    let l = c .before .before .before .before .before .before .before .loop in
-    let i : l .i ≡ c .before .before .before .before .before .before .before .before .before .before .before .args .m = omega (arith, c .before .before .before .before .before .before .before .before .index .ensures) in
-    wrote-as (blocks-all (c .before .before .before .before .before .before .before .before .before .before .before .args .table .now) (l .i) (c .before .before .before .before .before .before .before .before .before .before .before .args .m) _ i (c .before .before .before .before .wide16 .ensures)) (wrote-then (l .inv .1) (c .before .before .put-total .ensures))
+    let l = c .before .before .before .before .before .before .loop in
+    let s = c .before .before .before .before .before .before .before .before .before .args in
+    wrote-as (blocks-all (s .table .now) (l .i) (s .m) (omega arith)) (wrote-then (l .inv .1) (c .before .before .put-total .ensures))
 
 pub put-blocks-spec : {M : Type 1} → statement M
 put-blocks-spec =
@@ -74,7 +71,6 @@ put-blocks-spec =
     (tie.spec
     Inv-loop
     μ-loop
-    index-requires
     loop-holds
     mul-from
     add-put-block
@@ -87,7 +83,6 @@ put-blocks-spec =
     loop-less
     loop-again
     slice-aggregate-put-total
-    wide16-requires
     put-total-requires
     same-length
     returns)

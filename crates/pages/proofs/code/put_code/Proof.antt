@@ -5,10 +5,12 @@ use mathlib.Core.Path.{_≡_, _∙_}
 use Prim.Native.Nat.{_-_, _≤_}
 use lib.ListN.{length}
 use Rattle.sheet.specs.Layout.{codeOf}
-use Rattle.livevar_analysis.specs.LookupLaws.{count-of}
-use Rattle.stackless_control_flow_graph.specs.GivenLaws.{accepted-has}
-use Rattle.pages.specs.Output.{Wrote, wrote-as, wrote-none, wrote-then, wrote-length}
-use Rattle.pages.specs.CodeLaws.{codeLines, lines-none, lines-more, lines-all, heading-there}
+use Rattle.livevar_analysis.specs.InputLaws.{count-of}
+use Rattle.stackless_control_flow_graph.specs.CheckedSheetLaws.{accepted-has}
+use Rattle.listing.specs.Output.{Wrote}
+use Rattle.listing.specs.OutputLaws.{wrote-as, wrote-none, wrote-then, wrote-length}
+use Rattle.pages.specs.Parts.{codeLines}
+use Rattle.pages.specs.CodeLaws.{lines-none, lines-more, lines-all, heading-there}
 use Rattle.pages.proofs.code.put_code.Statement.{statement}
 use Rattle.pages.proofs.code.put_code.Tie as tie
 
@@ -21,14 +23,14 @@ abbrev μ-loop : tie.MeasureT-loop
 u16-at-requires : tie.Need-u16-at-requires Inv-loop μ-loop
 u16-at-requires c κs = omega (arith, heading-there (c .before .before .args .s .now) (c .before .before .pre))
 
-wide16-requires : tie.Need-wide16-requires Inv-loop μ-loop
-wide16-requires c κs = search needs
+u16-to-u32-requires : tie.Need-u16-to-u32-requires Inv-loop μ-loop
+u16-to-u32-requires c κs = search needs
 
 put-heading-requires : tie.Need-put-heading-requires Inv-loop μ-loop
 put-heading-requires c κs = heading-there _ (c .before .before .before .before .before .pre)
 
 loop-holds : tie.Need-loop-holds Inv-loop μ-loop
-loop-holds c = (omega arith, count-of (c .before .before .before .before .before .before .before .before .args .s .now) _ (c .before .before .before .before .wide16 .ensures ∙ c .before .before .before .before .before .u16-at .ensures), wrote-as (lines-none _) (wrote-none _ _))
+loop-holds c = (omega arith, count-of (c .before .before .before .before .before .before .before .before .args .s .now) _ (c .before .before .before .before .u16-to-u32 .ensures .0 ∙ c .before .before .before .before .before .u16-at .ensures), wrote-as (lines-none _) (wrote-none _ _))
 
 cast-instruction-at : tie.Need-cast-instruction-at Inv-loop μ-loop
 cast-instruction-at c = search needs
@@ -63,7 +65,7 @@ put-code-spec =
     Inv-loop
     μ-loop
     u16-at-requires
-    wide16-requires
+    u16-to-u32-requires
     put-heading-requires
     loop-holds
     cast-instruction-at

@@ -1,6 +1,6 @@
 -- `pages::code::put_code_line` meets its contract. Assumes nothing.
 use borrow.Author.Needs.{needs}
-use Rattle.pages.specs.Output.{wrote-as, wrote-then}
+use Rattle.listing.specs.OutputLaws.{wrote-as, wrote-then}
 use Rattle.pages.specs.CodeLaws.{line-is}
 use Rattle.pages.proofs.code.put_code_line.Statement.{statement}
 use Rattle.pages.proofs.code.put_code_line.Tie as tie

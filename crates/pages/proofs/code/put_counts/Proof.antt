@@ -2,8 +2,8 @@
 use borrow.Author.Needs.{needs}
 use mathlib.Core.Path.{_∙_}
 use Prim.Native.Nat.{ℕ}
-use Rattle.pages.specs.Output.{wrote-as, wrote-by, wrote-then}
-use Rattle.pages.specs.Words.{ascii, said}
+use Rattle.listing.specs.OutputLaws.{wrote-as, wrote-by, wrote-then}
+use Rattle.listing.specs.Words.{ascii, said}
 use Rattle.pages.specs.CodeLaws.{counts-is}
 use Rattle.pages.proofs.code.put_counts.Statement.{statement}
 use Rattle.pages.proofs.code.put_counts.Tie as tie
@@ -14,8 +14,8 @@ slice-aggregate-put-number c = search needs
 u16-at-requires : tie.Need-u16-at-requires
 u16-at-requires c κs = search needs
 
-wide16-requires : tie.Need-wide16-requires
-wide16-requires c κs = search needs
+u16-to-u32-requires : tie.Need-u16-to-u32-requires
+u16-to-u32-requires c κs = search needs
 
 put-number-requires : tie.Need-put-number-requires
 put-number-requires c κs = search needs
@@ -26,8 +26,8 @@ slice-aggregate-put-number-2 c = search needs
 u16-at-requires-2 : tie.Need-u16-at-requires-2
 u16-at-requires-2 c κs = search needs
 
-wide16-requires-2 : tie.Need-wide16-requires-2
-wide16-requires-2 c κs = search needs
+u16-to-u32-requires-2 : tie.Need-u16-to-u32-requires-2
+u16-to-u32-requires-2 c κs = search needs
 
 put-number-requires-2 : tie.Need-put-number-requires-2
 put-number-requires-2 c κs = search needs
@@ -38,8 +38,8 @@ slice-aggregate-put-number-3 c = search needs
 u16-at-requires-3 : tie.Need-u16-at-requires-3
 u16-at-requires-3 c κs = search needs
 
-wide16-requires-3 : tie.Need-wide16-requires-3
-wide16-requires-3 c κs = search needs
+u16-to-u32-requires-3 : tie.Need-u16-to-u32-requires-3
+u16-to-u32-requires-3 c κs = search needs
 
 put-number-requires-3 : tie.Need-put-number-requires-3
 put-number-requires-3 c κs = search needs
@@ -54,7 +54,7 @@ same-length : tie.Need-same-length
 same-length c = search needs
 
 returns : tie.Need-returns
-returns c = wrote-as (counts-is _) (wrote-then (wrote-then (wrote-then (wrote-by (λ (x : ℕ). said (ascii "locals ") x) (c .before .before .before .before .before .before .before .before .before .before .before .before .before .before .before .before .before .before .before .before .before .before .before .wide16 .ensures ∙ c .before .before .before .before .before .before .before .before .before .before .before .before .before .before .before .before .before .before .before .before .before .before .before .before .u16-at .ensures) (c .before .before .before .before .before .before .before .before .before .before .before .before .before .before .before .before .before .before .before .before .before .put-number .ensures)) (wrote-by (λ (x : ℕ). said (ascii " user ") x) (c .before .before .before .before .before .before .before .before .before .before .before .before .before .before .before .before .wide162 .ensures ∙ c .before .before .before .before .before .before .before .before .before .before .before .before .before .before .before .before .before .u16-at2 .ensures) (c .before .before .before .before .before .before .before .before .before .before .before .before .before .before .put-number2 .ensures))) (wrote-by (λ (x : ℕ). said (ascii " parameters ") x) (c .before .before .before .before .before .before .before .before .before .wide163 .ensures ∙ c .before .before .before .before .before .before .before .before .before .before .u16-at3 .ensures) (c .before .before .before .before .before .before .before .put-number3 .ensures))) (c .before .before .put-bytes .ensures))
+returns c = wrote-as (counts-is _) (wrote-then (wrote-then (wrote-then (wrote-by (λ (x : ℕ). said (ascii "locals ") x) (c .before .before .before .before .before .before .before .before .before .before .before .before .before .before .before .before .before .before .before .before .before .before .before .u16-to-u32 .ensures .0 ∙ c .before .before .before .before .before .before .before .before .before .before .before .before .before .before .before .before .before .before .before .before .before .before .before .before .u16-at .ensures) (c .before .before .before .before .before .before .before .before .before .before .before .before .before .before .before .before .before .before .before .before .before .put-number .ensures)) (wrote-by (λ (x : ℕ). said (ascii " user ") x) (c .before .before .before .before .before .before .before .before .before .before .before .before .before .before .before .before .u16-to-u322 .ensures .0 ∙ c .before .before .before .before .before .before .before .before .before .before .before .before .before .before .before .before .before .u16-at2 .ensures) (c .before .before .before .before .before .before .before .before .before .before .before .before .before .before .put-number2 .ensures))) (wrote-by (λ (x : ℕ). said (ascii " parameters ") x) (c .before .before .before .before .before .before .before .before .before .u16-to-u323 .ensures .0 ∙ c .before .before .before .before .before .before .before .before .before .before .u16-at3 .ensures) (c .before .before .before .before .before .before .before .put-number3 .ensures))) (c .before .before .put-bytes .ensures))
 
 pub put-counts-spec : {M : Type 1} → statement M
 put-counts-spec =
@@ -62,15 +62,15 @@ put-counts-spec =
     (tie.spec
     slice-aggregate-put-number
     u16-at-requires
-    wide16-requires
+    u16-to-u32-requires
     put-number-requires
     slice-aggregate-put-number-2
     u16-at-requires-2
-    wide16-requires-2
+    u16-to-u32-requires-2
     put-number-requires-2
     slice-aggregate-put-number-3
     u16-at-requires-3
-    wide16-requires-3
+    u16-to-u32-requires-3
     put-number-requires-3
     slice-aggregate-put-bytes
     put-bytes-requires

@@ -1,6 +1,6 @@
 -- `pages::code::put_heading` meets its contract. Assumes nothing.
 use borrow.Author.Needs.{needs}
-use Rattle.pages.specs.Output.{wrote-as, wrote-then}
+use Rattle.listing.specs.OutputLaws.{wrote-as, wrote-then}
 use Rattle.pages.specs.CodeLaws.{heading-is}
 use Rattle.pages.proofs.code.put_heading.Statement.{statement}
 use Rattle.pages.proofs.code.put_heading.Tie as tie

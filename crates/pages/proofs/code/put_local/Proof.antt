@@ -1,8 +1,8 @@
 -- `pages::code::put_local` meets its contract. Assumes nothing.
 use borrow.Author.Needs.{needs}
 use Prim.Native.Nat.{ℕ}
-use Rattle.pages.specs.Output.{wrote-as, wrote-by, wrote-none}
-use Rattle.pages.specs.Words.{ascii, said}
+use Rattle.listing.specs.OutputLaws.{wrote-as, wrote-by, wrote-none}
+use Rattle.listing.specs.Words.{ascii, said}
 use Rattle.pages.specs.CodeLaws.{local-in, local-out}
 use Rattle.pages.proofs.code.put_local.Statement.{statement}
 use Rattle.pages.proofs.code.put_local.Tie as tie
@@ -10,8 +10,8 @@ use Rattle.pages.proofs.code.put_local.Tie as tie
 slice-aggregate-put-number : tie.Need-slice-aggregate-put-number
 slice-aggregate-put-number c = search needs
 
-wide32-requires : tie.Need-wide32-requires
-wide32-requires c κs = search needs
+u8-to-u32-requires : tie.Need-u8-to-u32-requires
+u8-to-u32-requires c κs = search needs
 
 put-number-requires : tie.Need-put-number-requires
 put-number-requires c κs = search needs
@@ -20,7 +20,7 @@ same-length : tie.Need-same-length
 same-length c = search needs
 
 returns : tie.Need-returns
-returns c = wrote-as (local-in _ _ (c .before .before .before .before .before .before .if1 .taken)) (wrote-by (λ (x : ℕ). said (ascii " t") x) (c .before .before .before .before .wide32 .ensures) (c .before .before .put-number .ensures))
+returns c = wrote-as (local-in _ _ (c .before .before .before .before .before .before .if1 .taken)) (wrote-by (λ (x : ℕ). said (ascii " t") x) (c .before .before .before .before .u8-to-u32 .ensures .0) (c .before .before .put-number .ensures))
 
 returns-2 : tie.Need-returns-2
 returns-2 c = wrote-as (local-out _ _ (c .if1 .left)) (wrote-none _ _)
@@ -30,7 +30,7 @@ put-local-spec =
     tie.close
     (tie.spec
     slice-aggregate-put-number
-    wide32-requires
+    u8-to-u32-requires
     put-number-requires
     same-length
     returns

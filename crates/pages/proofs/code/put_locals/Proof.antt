@@ -5,8 +5,10 @@ use mathlib.Core.Path.{_≡_, sym}
 use Prim.Native.Nat.{_-_, _≤_}
 use Rattle.base.specs.Sizes.{maxLocals}
 use Rattle.base.specs.Bytes.{number}
-use Rattle.pages.specs.Output.{Wrote, wrote-as, wrote-none, wrote-then, wrote-length}
-use Rattle.pages.specs.CodeLaws.{localsBelow, below-none, below-more, below-all}
+use Rattle.listing.specs.Output.{Wrote}
+use Rattle.listing.specs.OutputLaws.{wrote-as, wrote-none, wrote-then, wrote-length}
+use Rattle.pages.specs.Parts.{localsBelow}
+use Rattle.pages.specs.CodeLaws.{below-none, below-more, below-all}
 use Rattle.pages.proofs.code.put_locals.Statement.{statement}
 use Rattle.pages.proofs.code.put_locals.Tie as tie
 

@@ -3,8 +3,9 @@ use borrow.Author.Needs.{needs}
 use Prim.Native.Nat.{ℕ}
 use lib.ListN.{take}
 use mathlib.Core.List.{[]}
-use Rattle.pages.specs.Output.{wrote-as, wrote-by}
-use Rattle.pages.specs.Words.{ascii, listed}
+use Rattle.listing.specs.OutputLaws.{wrote-as, wrote-by}
+use Rattle.listing.specs.Words.{ascii}
+use Rattle.pages.specs.Words.{listed}
 use Rattle.pages.specs.CodeLaws.{sources-is}
 use Rattle.pages.proofs.code.put_sources.Statement.{statement}
 use Rattle.pages.proofs.code.put_sources.Tie as tie
@@ -18,8 +19,8 @@ slice-aggregate-put-listed-2 c = search needs
 slice-aggregate-put-listed-3 : tie.Need-slice-aggregate-put-listed-3
 slice-aggregate-put-listed-3 c = search needs
 
-wide8-requires : tie.Need-wide8-requires
-wide8-requires c κs = search needs
+u8-to-usize-requires : tie.Need-u8-to-usize-requires
+u8-to-usize-requires c κs = search needs
 
 put-listed-requires : tie.Need-put-listed-requires
 put-listed-requires c κs = search needs
@@ -28,7 +29,7 @@ same-length : tie.Need-same-length
 same-length c = search needs
 
 returns : tie.Need-returns
-returns c = wrote-as (sources-is _) (wrote-by (λ (x : ℕ). listed (ascii " t") [] (take x (c .before .before .before .before .before .before .before .before .before .before .args .r .srcs))) (c .before .before .before .before .wide8 .ensures) (c .before .before .put-listed .ensures))
+returns c = wrote-as (sources-is _) (wrote-by (λ (x : ℕ). listed (ascii " t") [] (take x (c .before .before .before .before .before .before .before .before .before .before .args .r .srcs))) (c .before .before .before .before .u8-to-usize .ensures .0) (c .before .before .put-listed .ensures))
 
 pub put-sources-spec : {M : Type 1} → statement M
 put-sources-spec =
@@ -37,7 +38,7 @@ put-sources-spec =
     slice-aggregate-put-listed
     slice-aggregate-put-listed-2
     slice-aggregate-put-listed-3
-    wide8-requires
+    u8-to-usize-requires
     put-listed-requires
     same-length
     returns)

@@ -1,8 +1,9 @@
 -- `pages::code::put_takes` meets its contract. Assumes nothing.
 use borrow.Author.Needs.{needs}
 use Prim.Native.Nat.{ℕ}
-use Rattle.pages.specs.Output.{wrote-as, wrote-by, wrote-then}
-use Rattle.pages.specs.Words.{ascii, marked}
+use Rattle.listing.specs.OutputLaws.{wrote-as, wrote-by, wrote-then}
+use Rattle.listing.specs.Words.{ascii}
+use Rattle.pages.specs.Words.{marked}
 use Rattle.pages.specs.CodeLaws.{takes-is}
 use Rattle.pages.proofs.code.put_takes.Statement.{statement}
 use Rattle.pages.proofs.code.put_takes.Tie as tie
@@ -22,8 +23,8 @@ put-mark-requires c κs = search needs
 slice-aggregate-put-mark-2 : tie.Need-slice-aggregate-put-mark-2
 slice-aggregate-put-mark-2 c = search needs
 
-wide16-requires : tie.Need-wide16-requires
-wide16-requires c κs = search needs
+u16-to-u32-requires : tie.Need-u16-to-u32-requires
+u16-to-u32-requires c κs = search needs
 
 put-mark-requires-2 : tie.Need-put-mark-requires-2
 put-mark-requires-2 c κs = search needs
@@ -32,7 +33,7 @@ same-length : tie.Need-same-length
 same-length c = search needs
 
 returns : tie.Need-returns
-returns c = wrote-as (takes-is _) (wrote-then (wrote-then (wrote-then (c .before .before .before .before .before .before .before .before .before .before .before .before .before .before .before .before .before .put-sources .ensures) (c .before .before .before .before .before .before .before .before .before .before .before .before .before .put-aborting .ensures)) (c .before .before .before .before .before .before .before .before .put-mark .ensures)) (wrote-by (λ (x : ℕ). marked (ascii " @") x) (c .before .before .before .before .wide16 .ensures) (c .before .before .put-mark2 .ensures)))
+returns c = wrote-as (takes-is _) (wrote-then (wrote-then (wrote-then (c .before .before .before .before .before .before .before .before .before .before .before .before .before .before .before .before .before .put-sources .ensures) (c .before .before .before .before .before .before .before .before .before .before .before .before .before .put-aborting .ensures)) (c .before .before .before .before .before .before .before .before .put-mark .ensures)) (wrote-by (λ (x : ℕ). marked (ascii " @") x) (c .before .before .before .before .u16-to-u32 .ensures .0) (c .before .before .put-mark2 .ensures)))
 
 pub put-takes-spec : {M : Type 1} → statement M
 put-takes-spec =
@@ -43,7 +44,7 @@ put-takes-spec =
     slice-aggregate-put-mark
     put-mark-requires
     slice-aggregate-put-mark-2
-    wide16-requires
+    u16-to-u32-requires
     put-mark-requires-2
     same-length
     returns)

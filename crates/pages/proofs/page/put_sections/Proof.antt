@@ -1,47 +1,74 @@
--- `pages::page::put_sections` meets its contract. Assumes nothing.
+-- `pages::page::put_sections` meets its contract: four sections, one behind the other. Assumes nothing.
+use native.Mathlib.Omega.{arith}
 use borrow.Author.Needs.{needs}
-use Rattle.pages.specs.Output.{wrote-as, wrote-then}
+use mathlib.Core.Path.{sym, ap, _∙_}
+use mathlib.Core.List.{List, _++_}
+use Prim.Native.Nat.{ℕ, _*_}
+use lib.ListN.{length-replicate}
+use Rattle.base.specs.Sizes.{pairBytes, maxInstructions}
+use Rattle.sheet.specs.CheckLaws.{code-length}
+use Rattle.sheet.specs.ValidLaws.{accepted-valid}
+use Rattle.livevar_transform.specs.RewriteCallLaws.{asked}
+use Rattle.listing.specs.Words.{ascii}
+use Rattle.listing.specs.OutputLaws.{wrote-as, wrote-then}
+use Rattle.pages.specs.SectionLaws.{live-written}
 use Rattle.pages.specs.PageLaws.{sections-is}
 use Rattle.pages.proofs.page.put_sections.Statement.{statement}
 use Rattle.pages.proofs.page.put_sections.Tie as tie
 
-put-code-and-flow-requires : tie.Need-put-code-and-flow-requires
-put-code-and-flow-requires c κs = search needs
+slice-aggregate-analyze : tie.Need-slice-aggregate-analyze
+slice-aggregate-analyze c = search needs
 
-slice-aggregate-put-bytes : tie.Need-slice-aggregate-put-bytes
-slice-aggregate-put-bytes c = search needs
+analyze-requires : tie.Need-analyze-requires
+analyze-requires c κs =
+    let p = c .before .before .before .before .pre in
+    (p, omega (arith, code-length (c .before .before .before .before .args .s .now), accepted-valid _ (p .accepted) .few, length-replicate {A = ℕ} (pairBytes * maxInstructions) 0))
 
-put-bytes-requires : tie.Need-put-bytes-requires
-put-bytes-requires c κs = search needs
+put-code-section-requires : tie.Need-put-code-section-requires
+put-code-section-requires c κs = search needs
 
-put-live-requires : tie.Need-put-live-requires
-put-live-requires c κs = search needs
+put-flow-section-requires : tie.Need-put-flow-section-requires
+put-flow-section-requires c κs = search needs
 
-slice-aggregate-put-bytes-2 : tie.Need-slice-aggregate-put-bytes-2
-slice-aggregate-put-bytes-2 c = search needs
+slice-aggregate-put-live-section : tie.Need-slice-aggregate-put-live-section
+slice-aggregate-put-live-section c = search needs
 
-put-bytes-requires-2 : tie.Need-put-bytes-requires-2
-put-bytes-requires-2 c κs = search needs
+put-live-section-requires : tie.Need-put-live-section-requires
+put-live-section-requires c κs =
+    let p = c .before .before .before .before .before .before .before .before .before .before .before .before .before .before .before .before .pre in
+    let few = accepted-valid _ (p .accepted) .few in
+    (omega (arith, few, p .count), omega (arith, few, p .count, c .before .before .before .before .before .before .before .before .before .before .before .analyze .kept .1 .1 .1 .0))
 
-put-rewritten-requires : tie.Need-put-rewritten-requires
-put-rewritten-requires c κs = search needs
+slice-aggregate-put-rewritten-section : tie.Need-slice-aggregate-put-rewritten-section
+slice-aggregate-put-rewritten-section c = search needs
+
+put-rewritten-section-requires : tie.Need-put-rewritten-section-requires
+put-rewritten-section-requires c κs =
+    let p = c .before .before .before .before .before .before .before .before .before .before .before .before .before .before .before .before .before .before .before .before .before .pre in
+    (p .accepted, asked p (c .before .before .before .before .before .before .before .before .before .before .before .before .before .before .before .before .analyze .ensures) (omega (arith, accepted-valid _ (p .accepted) .few, p .count, c .before .before .before .before .before .before .before .before .before .before .before .before .before .before .before .before .analyze .kept .1 .1 .1 .0)))
 
 same-length : tie.Need-same-length
 same-length c = search needs
 
 returns : tie.Need-returns
-returns c = wrote-as (sections-is _) (wrote-then (wrote-then (wrote-then (wrote-then (c .before .before .before .before .before .before .before .before .before .before .before .before .before .before .before .before .before .before .before .before .put-code-and-flow .ensures) (c .before .before .before .before .before .before .before .before .before .before .before .before .before .before .before .put-bytes .ensures)) (c .before .before .before .before .before .before .before .before .before .before .before .put-live .ensures)) (c .before .before .before .before .before .before .put-bytes2 .ensures)) (c .before .before .put-rewritten .ensures))
+returns c =
+    let c24 = c .before .before .before .before .before .before .before .before .before .before .before .before .before .before .before .before .before .before .before .before .before .before .before .before in
+    let p = c24 .pre in
+    let live = live-written _ _ _ p (p .count ∙ sym (code-length (c24 .args .s .now))) (c .before .before .before .before .before .before .before .before .before .before .before .before .before .before .before .before .before .before .before .analyze .ensures) in
+    wrote-as (sections-is _)
+    (wrote-then (wrote-then (wrote-then (c .before .before .before .before .before .before .before .before .before .before .before .before .before .before .before .before .put-code-section .ensures) (c .before .before .before .before .before .before .before .before .before .before .before .before .put-flow-section .ensures)) (wrote-as (ap (λ (t : List ℕ). ascii "\nlive\n" ++ t) live) (c .before .before .before .before .before .before .before .put-live-section .ensures))) (c .before .before .put-rewritten-section .ensures))
 
 pub put-sections-spec : {M : Type 1} → statement M
 put-sections-spec =
     tie.close
     (tie.spec
-    put-code-and-flow-requires
-    slice-aggregate-put-bytes
-    put-bytes-requires
-    put-live-requires
-    slice-aggregate-put-bytes-2
-    put-bytes-requires-2
-    put-rewritten-requires
+    slice-aggregate-analyze
+    analyze-requires
+    put-code-section-requires
+    put-flow-section-requires
+    slice-aggregate-put-live-section
+    put-live-section-requires
+    slice-aggregate-put-rewritten-section
+    put-rewritten-section-requires
     same-length
     returns)

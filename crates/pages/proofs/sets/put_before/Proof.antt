@@ -1,7 +1,7 @@
 -- `pages::sets::put_before` meets its contract. Assumes nothing.
 use borrow.Author.Needs.{needs}
-use Rattle.pages.specs.Output.{wrote-as, wrote-then}
-use Rattle.pages.specs.PageLaws.{before-is}
+use Rattle.listing.specs.OutputLaws.{wrote-as, wrote-then}
+use Rattle.pages.specs.SectionLaws.{before-is}
 use Rattle.pages.proofs.sets.put_before.Statement.{statement}
 use Rattle.pages.proofs.sets.put_before.Tie as tie
 

@@ -2,9 +2,11 @@
 use borrow.Author.Needs.{needs}
 use native.Mathlib.Omega.{arith}
 use Prim.Native.Nat.{_-_, _≤_}
-use Rattle.livevar_analysis.specs.Output.{infosOf}
-use Rattle.pages.specs.Output.{Wrote, wrote-as, wrote-none, wrote-then, wrote-length}
-use Rattle.pages.specs.PageLaws.{liveLines, live-none, live-more, live-all}
+use Rattle.livevar_analysis.specs.Analysis.{infosOf}
+use Rattle.listing.specs.Output.{Wrote}
+use Rattle.listing.specs.OutputLaws.{wrote-as, wrote-none, wrote-then, wrote-length}
+use Rattle.pages.specs.Parts.{liveLines}
+use Rattle.pages.specs.SectionLaws.{live-none, live-more, live-all}
 use Rattle.pages.proofs.sets.put_lines.Statement.{statement}
 use Rattle.pages.proofs.sets.put_lines.Tie as tie
 

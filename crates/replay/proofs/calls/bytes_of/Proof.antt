@@ -50,7 +50,9 @@ add-out : tie.Need-add-out Inv-loop μ-loop
 add-out c = search needs
 
 slice-write-out-2 : tie.Need-slice-write-out-2 Inv-loop μ-loop
-slice-write-out-2 c = inside-set (c .before .before .before .before .before .loop .out) (2 * c .before .before .before .before .before .loop .i) (c .before .before .low .result) (2 * c .before .before .before .before .before .loop .i + 1) (omega arith)
+slice-write-out-2 c =
+    let c5 = c .before .before .before .before .before in
+    inside-set (c5 .loop .out) (2 * c5 .loop .i) (c .before .before .low .result) (2 * c5 .loop .i + 1) (omega arith)
 
 add-i : tie.Need-add-i Inv-loop μ-loop
 add-i c = search needs
@@ -59,13 +61,18 @@ loop-less : tie.Need-loop-less Inv-loop μ-loop
 loop-less c = search needs
 
 loop-again : tie.Need-loop-again Inv-loop μ-loop
-loop-again c = (search needs, pairs-more (c .before .before .before .before .before .before .before .before .args .out .now) (c .before .before .before .before .before .before .before .before .args .table .now) (c .before .before .before .before .before .loop .out) (c .before .before .before .before .before .loop .i) (c .before .before .low .result) (c .high .result) (search needs) (c .before .before .before .before .before .before .before .before .pre) (c .before .before .before .before .before .loop .inv .1) (c .before .before .low .ensures) (c .high .ensures), search needs)
+loop-again c =
+    let c5 = c .before .before .before .before .before in
+    let c8 = c5 .before .before .before in
+    (search needs, pairs-more (c8 .args .out .now) (c8 .args .table .now) (c5 .loop .out) (c5 .loop .i) (c .before .before .low .result) (c .high .result) (search needs) (c8 .pre) (c5 .loop .inv .1) (c .before .before .low .ensures) (c .high .ensures), search needs)
 
 same-length : tie.Need-same-length Inv-loop μ-loop
 same-length c = search needs
 
 returns : tie.Need-returns Inv-loop μ-loop
-returns c = pairs-all (c .before .before .before .before .args .out .now) (c .before .before .before .before .args .table .now) (c .before .loop .out) (c .before .loop .i) (omega arith) (c .before .loop .inv .1)
+returns c =
+    let c4 = c .before .before .before .before in
+    pairs-all (c4 .args .out .now) (c4 .args .table .now) (c .before .loop .out) (c .before .loop .i) (omega arith) (c .before .loop .inv .1)
 
 pub bytes-of-spec : {M : Type 1} → statement M
 bytes-of-spec =

@@ -1,6 +1,6 @@
 -- `replay::calls::conditional_agrees` meets its contract: what the call ensures, and a comparison. Assumes nothing.
 use Rattle.borrow_analysis.specs.Borrows.{conditionalReply}
-use Rattle.borrow_analysis.specs.Graph.{given}
+use Rattle.borrow_analysis.specs.Graph.{graphInput}
 use Rattle.replay.specs.AgreeLaws.{answered}
 use borrow.Author.Needs.{needs}
 use Rattle.replay.proofs.calls.conditional_agrees.Statement.{statement}
@@ -10,7 +10,7 @@ sorzibelu-conditional-requires : tie.Need-sorzibelu-conditional-requires
 sorzibelu-conditional-requires c κs = search needs
 
 returns : tie.Need-returns
-returns c = answered (conditionalReply (given (c .before .before .args .nodes) (c .before .before .args .live) (c .before .before .args .triples .now)) (c .before .before .args .node)) (c .sorzibelu-conditional .result) (c .before .before .args .result) (c .sorzibelu-conditional .ensures)
+returns c = answered (conditionalReply (graphInput (c .before .before .args .nodes) (c .before .before .args .live) (c .before .before .args .triples .now)) (c .before .before .args .node)) (c .sorzibelu-conditional .result) (c .before .before .args .result) (c .sorzibelu-conditional .ensures .0)
 
 pub conditional-agrees-spec : {M : Type 1} → statement M
 conditional-agrees-spec = tie.close (tie.spec sorzibelu-conditional-requires returns)

@@ -1,6 +1,6 @@
 -- `replay::calls::dying_agrees` meets its contract: what the call ensures of the lent front, and a comparison. Assumes nothing.
 use Rattle.borrow_analysis.specs.Borrows.{dyingReply}
-use Rattle.borrow_analysis.specs.Graph.{given}
+use Rattle.borrow_analysis.specs.Graph.{graphInput}
 use lib.ListN.{length}
 use Prim.Native.Nat.{ℕ}
 use mathlib.Core.Path.{refl}
@@ -13,7 +13,9 @@ slice-relend-prefix-sorzibelu-dying : tie.Need-slice-relend-prefix-sorzibelu-dyi
 slice-relend-prefix-sorzibelu-dying c = search needs
 
 slice-aggregate-sorzibelu-dying : tie.Need-slice-aggregate-sorzibelu-dying
-slice-aggregate-sorzibelu-dying c = front-long (c .before .before .before .before .before .args .lent) (length (c .before .before .before .before .before .args .out .now)) (c .before .before .before .before .before .args .out .now) (c .before .before .before .before .before .pre) refl
+slice-aggregate-sorzibelu-dying c =
+    let c5 = c .before .before .before .before .before in
+    front-long (c5 .args .stored .lent) (length (c5 .args .out .now)) (c5 .args .out .now) (c5 .pre) refl
 
 sorzibelu-dying-requires : tie.Need-sorzibelu-dying-requires
 sorzibelu-dying-requires c κs = search needs
@@ -25,7 +27,9 @@ same-length : tie.Need-same-length
 same-length c = search needs
 
 returns : tie.Need-returns
-returns c = let a = c .before .before .before .before .before .before .before .before .before .before .args in let r = c .before .before .before .before .sorzibelu-dying in agreed (λ (n : ℕ). dyingReply (given (a .nodes) (a .live) (a .triples .now)) (given (a .next-nodes) (a .next-live) (a .next-triples .now)) n) (a .lent) (a .result) (r .result) (a .out .now) (r .last .1 .1 .1 .1 .1 .1 .0) (a .want .now) (c .agrees .result) (c .before .before .before .before .before .before .before .before .before .before .pre) (r .ensures .0) (r .ensures .1) (c .agrees .ensures)
+returns c =
+    let c10 = c .before .before .before .before .before .before .before .before .before .before in
+    let a = c10 .args in let r = c .before .before .before .before .sorzibelu-dying in agreed (λ (n : ℕ). dyingReply (graphInput (a .nodes) (a .live) (a .triples .now)) (graphInput (a .next-nodes) (a .next-live) (a .next-triples .now)) n) (a .stored .lent) (a .stored .result) (r .result) (a .out .now) (r .last .1 .1 .1 .1 .1 .1 .0) (a .want .now) (c .agrees .result) (c10 .pre) (r .ensures .0) (r .ensures .1 .0) (c .agrees .ensures)
 
 pub dying-agrees-spec : {M : Type 1} → statement M
 dying-agrees-spec =

@@ -13,7 +13,9 @@ slice-relend-prefix-sorzibelu-flow : tie.Need-slice-relend-prefix-sorzibelu-flow
 slice-relend-prefix-sorzibelu-flow c = search needs
 
 slice-aggregate-sorzibelu-flow : tie.Need-slice-aggregate-sorzibelu-flow
-slice-aggregate-sorzibelu-flow c = front-long (c .before .before .before .before .before .args .lent) (length (c .before .before .before .before .before .args .table .now)) (c .before .before .before .before .before .args .table .now) (c .before .before .before .before .before .pre .0) refl
+slice-aggregate-sorzibelu-flow c =
+    let c5 = c .before .before .before .before .before in
+    front-long (c5 .args .lent) (length (c5 .args .table .now)) (c5 .args .table .now) (c5 .pre .0) refl
 
 sorzibelu-flow-requires : tie.Need-sorzibelu-flow-requires
 sorzibelu-flow-requires c κs = search needs
@@ -31,7 +33,9 @@ same-length-2 : tie.Need-same-length-2
 same-length-2 c = search needs
 
 returns : tie.Need-returns
-returns c = let a = c .before .before .before .before .before .before .before .before .before .before .before .before .before .before .before .args in let r = c .before .before .before .before .before .before .before .before .before .sorzibelu-flow in let b = c .before .before .before .before .bytes-of in agreed-pairs (λ (n : ℕ). flowReply (a .sheet .now) n) (a .lent) (a .result) (r .result) (a .table .now) (r .last .1 .0) (a .out .now) (b .last .1 .0) (a .want .now) (c .agrees .result) (c .before .before .before .before .before .before .before .before .before .before .before .before .before .before .before .pre .0) (r .ensures .0) (r .ensures .1) (b .ensures) (c .agrees .ensures)
+returns c =
+    let c15 = c .before .before .before .before .before .before .before .before .before .before .before .before .before .before .before in
+    let a = c15 .args in let r = c .before .before .before .before .before .before .before .before .before .sorzibelu-flow in let b = c .before .before .before .before .bytes-of in agreed-pairs (λ (n : ℕ). flowReply (a .sheet .now) n) (a .lent) (a .result) (r .result) (a .table .now) (r .last .1 .0) (a .out .now) (b .last .1 .0) (a .want .now) (c .agrees .result) (c15 .pre .0) (r .ensures .0) (r .ensures .1 .0) (b .ensures) (c .agrees .ensures)
 
 pub flow-agrees-spec : {M : Type 1} → statement M
 flow-agrees-spec =

@@ -1,6 +1,6 @@
 -- `replay::calls::in_use_agrees` meets its contract: what the call ensures, and a comparison. Assumes nothing.
 use Rattle.borrow_analysis.specs.Borrows.{inUseReply}
-use Rattle.borrow_analysis.specs.Graph.{given}
+use Rattle.borrow_analysis.specs.Graph.{graphInput}
 use Rattle.replay.specs.AgreeLaws.{answered}
 use borrow.Author.Needs.{needs}
 use Rattle.replay.proofs.calls.in_use_agrees.Statement.{statement}
@@ -10,7 +10,7 @@ sorzibelu-in-use-requires : tie.Need-sorzibelu-in-use-requires
 sorzibelu-in-use-requires c κs = search needs
 
 returns : tie.Need-returns
-returns c = answered (inUseReply (given (c .before .before .args .nodes) (c .before .before .args .live) (c .before .before .args .triples .now)) (c .before .before .args .node)) (c .sorzibelu-in-use .result) (c .before .before .args .result) (c .sorzibelu-in-use .ensures)
+returns c = answered (inUseReply (graphInput (c .before .before .args .nodes) (c .before .before .args .live) (c .before .before .args .triples .now)) (c .before .before .args .node)) (c .sorzibelu-in-use .result) (c .before .before .args .result) (c .sorzibelu-in-use .ensures .0)
 
 pub in-use-agrees-spec : {M : Type 1} → statement M
 in-use-agrees-spec = tie.close (tie.spec sorzibelu-in-use-requires returns)

@@ -12,7 +12,9 @@ slice-relend-prefix-sorzibelu-rewrite : tie.Need-slice-relend-prefix-sorzibelu-r
 slice-relend-prefix-sorzibelu-rewrite c = search needs
 
 slice-aggregate-sorzibelu-rewrite : tie.Need-slice-aggregate-sorzibelu-rewrite
-slice-aggregate-sorzibelu-rewrite c = front-long (c .before .before .before .before .args .lent) (length (c .before .before .before .before .args .out .now)) (c .before .before .before .before .args .out .now) (c .before .before .before .before .pre) refl
+slice-aggregate-sorzibelu-rewrite c =
+    let c4 = c .before .before .before .before in
+    front-long (c4 .args .lent) (length (c4 .args .out .now)) (c4 .args .out .now) (c4 .pre) refl
 
 sorzibelu-rewrite-requires : tie.Need-sorzibelu-rewrite-requires
 sorzibelu-rewrite-requires c κs = search needs
@@ -24,7 +26,9 @@ same-length : tie.Need-same-length
 same-length c = search needs
 
 returns : tie.Need-returns
-returns c = let a = c .before .before .before .before .before .before .before .before .before .args in let r = c .before .before .before .before .sorzibelu-rewrite in agreed (λ (n : ℕ). rewriteReply (a .sheet .now) n) (a .lent) (a .result) (r .result) (a .out .now) (r .last .1 .0) (a .want .now) (c .agrees .result) (c .before .before .before .before .before .before .before .before .before .pre) (r .ensures .0) (r .ensures .1 .0) (c .agrees .ensures)
+returns c =
+    let c9 = c .before .before .before .before .before .before .before .before .before in
+    let a = c9 .args in let r = c .before .before .before .before .sorzibelu-rewrite in agreed (λ (n : ℕ). rewriteReply (a .sheet .now) n) (a .lent) (a .result) (r .result) (a .out .now) (r .last .1 .0) (a .want .now) (c .agrees .result) (c9 .pre) (r .ensures .0) (r .ensures .1 .0) (c .agrees .ensures)
 
 pub rewrite-agrees-spec : {M : Type 1} → statement M
 rewrite-agrees-spec =

@@ -27,14 +27,14 @@ same-length c = search needs
 returns : tie.Need-returns Inv-loop μ-loop
 returns c = search needs
 
-add-wide : tie.Need-add-wide Inv-loop μ-loop
-add-wide c = search needs
+add-u8-to-usize : tie.Need-add-u8-to-usize Inv-loop μ-loop
+add-u8-to-usize c = search needs
 
-shared-slice-read-wide : tie.Need-shared-slice-read-wide Inv-loop μ-loop
-shared-slice-read-wide c = search needs
+shared-slice-read-u8-to-usize : tie.Need-shared-slice-read-u8-to-usize Inv-loop μ-loop
+shared-slice-read-u8-to-usize c = search needs
 
-wide-requires : tie.Need-wide-requires Inv-loop μ-loop
-wide-requires c κs = search needs
+u8-to-usize-requires : tie.Need-u8-to-usize-requires Inv-loop μ-loop
+u8-to-usize-requires c κs = search needs
 
 sub-if3 : tie.Need-sub-if3 Inv-loop μ-loop
 sub-if3 c = search needs
@@ -98,9 +98,9 @@ unpack-spec =
     add-if2
     same-length
     returns
-    add-wide
-    shared-slice-read-wide
-    wide-requires
+    add-u8-to-usize
+    shared-slice-read-u8-to-usize
+    u8-to-usize-requires
     sub-if3
     same-length-2
     returns-2

@@ -1,11 +1,9 @@
 -- `sheet_writer::whole::put_heading` meets its contract. Assumes nothing.
 use mathlib.Core.Path.{ap, ap₂, _∙_}
 use Rattle.sheet_writer.specs.SheetLaws.{heading-parts, heading-rest}
-use mathlib.Core.Path.{ap, ap₂, _∙_}
 use Prim.Native.Nat.{ℕ}
 use Rattle.sheet.specs.Layout.{blockOf}
 use mathlib.Core.List.{List, _++_}
-use Rattle.sheet_writer.specs.SheetLaws.{heading-parts}
 use borrow.Author.Needs.{needs}
 use Rattle.sheet_writer.proofs.whole.put_heading.Statement.{statement}
 use Rattle.sheet_writer.proofs.whole.put_heading.Tie as tie
@@ -53,7 +51,11 @@ same-length : tie.Need-same-length
 same-length c = search needs
 
 returns : tie.Need-returns
-returns c = c .before .before .seal .ensures ∙ ap (blockOf 0) (heading-parts (c .before .before .before .before .before .before .before .before .before .before .before .before .before .before .before .args .out .now) (c .before .before .before .before .before .before .before .before .before .before .copy .last .1 .0) (c .before .before .before .before .before .before .put-u16 .last .0) (c .before .before .before .before .before .before .before .before .before .before .before .before .before .before .before .pre .2) (heading-rest (c .before .before .before .before .before .before .before .before .before .before .before .before .before .before .before .args .s .now) _ (c .before .before .before .before .before .before .before .before .before .before .before .before .before .before .before .pre .0) (c .before .before .before .before .before .before .before .before .before .before .copy .ensures)) ∙ ap₂ (λ (x y : List ℕ). x ++ y) (c .before .before .before .before .before .before .put-u16 .ensures) (c .before .before .before .before .before .before .before .before .before .before .copy .ensures))
+returns c =
+    let p6 = c .before .before .before .before .before .before in
+    let p10 = c .before .before .before .before .before .before .before .before .before .before in
+    let p15 = c .before .before .before .before .before .before .before .before .before .before .before .before .before .before .before in
+    c .before .before .seal .ensures ∙ ap (blockOf 0) (heading-parts (p15 .args .out .now) (p10 .copy .last .1 .0) (p6 .put-u16 .last .0) (p15 .pre .2) (heading-rest (p15 .args .s .now) _ (p15 .pre .0) (p10 .copy .ensures)) ∙ ap₂ (λ (x y : List ℕ). x ++ y) (p6 .put-u16 .ensures) (p10 .copy .ensures))
 
 pub put-heading-spec : {M : Type 1} → statement M
 put-heading-spec =

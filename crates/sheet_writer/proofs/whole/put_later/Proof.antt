@@ -1,11 +1,9 @@
 -- `sheet_writer::whole::put_later` meets its contract. Assumes nothing.
 use mathlib.Core.Path.{ap, ap₂, _∙_}
 use lib.ListN.{length}
-use mathlib.Core.Path.{ap, ap₂, _∙_}
 use Prim.Native.Nat.{ℕ}
 use Rattle.sheet.specs.Layout.{blockOf}
 use mathlib.Core.List.{List, _++_}
-use lib.ListN.{length}
 use Rattle.sheet_writer.specs.SheetLaws.{later-parts}
 use borrow.Author.Needs.{needs}
 use Rattle.sheet_writer.proofs.whole.put_later.Statement.{statement}
@@ -45,7 +43,11 @@ same-length : tie.Need-same-length
 same-length c = search needs
 
 returns : tie.Need-returns
-returns c = c .before .before .seal .ensures ∙ ap (blockOf (c .before .before .before .before .before .before .before .before .before .before .before .before .before .before .before .args .b)) (later-parts (c .before .before .before .before .before .before .before .before .before .before .before .before .before .before .before .args .out .now) (c .before .before .before .before .before .before .before .before .before .before .copy .last .1 .0) (c .before .before .before .before .before .before .copy2 .last .1 .0) (c .before .before .before .before .before .before .before .before .before .before .before .before .before .before .before .pre .1) (ap length (c .before .before .before .before .before .before .before .before .before .before .copy .ensures)) ∙ ap₂ (λ (x y : List ℕ). x ++ y) (c .before .before .before .before .before .before .before .before .before .before .copy .ensures) (c .before .before .before .before .before .before .copy2 .ensures))
+returns c =
+    let p6 = c .before .before .before .before .before .before in
+    let p10 = c .before .before .before .before .before .before .before .before .before .before in
+    let p15 = c .before .before .before .before .before .before .before .before .before .before .before .before .before .before .before in
+    c .before .before .seal .ensures ∙ ap (blockOf (p15 .args .b)) (later-parts (p15 .args .out .now) (p10 .copy .last .1 .0) (p6 .copy2 .last .1 .0) (p15 .pre .1) (ap length (p10 .copy .ensures)) ∙ ap₂ (λ (x y : List ℕ). x ++ y) (p10 .copy .ensures) (p6 .copy2 .ensures))
 
 pub put-later-spec : {M : Type 1} → statement M
 put-later-spec =

@@ -64,7 +64,9 @@ same-length : tie.Need-same-length
 same-length c = search needs
 
 returns : tie.Need-returns
-returns c = sealed _ _ (c .before .before .before .before .before .before .before .before .before .before .before .before .before .before .before .args .out .now) _ _ (c .before .before .before .before .before .before .before .before .before .before .before .before .before .before .before .pre) (c .before .before .before .before .before .before .before .before .before .before .before .before .put-u16 .ensures) (ap₂ (λ (a b : ℕ). (a + b) % 65536) (c .before .before .before .before .before .before .before .total .ensures .0) (c .before .before .before .before .total2 .ensures .0)) (c .before .before .put-u162 .ensures)
+returns c =
+    let p = c .before .before .before .before .before .before .before .before .before .before .before .before .before .before .before in
+    sealed _ _ (p .args .out .now) _ _ (p .pre) (c .before .before .before .before .before .before .before .before .before .before .before .before .put-u16 .ensures) (ap₂ (λ (a b : ℕ). (a + b) % 65536) (c .before .before .before .before .before .before .before .total .ensures .0) (c .before .before .before .before .total2 .ensures .0)) (c .before .before .put-u162 .ensures)
 
 pub seal-spec : {M : Type 1} → statement M
 seal-spec =

@@ -56,7 +56,9 @@ same-length : tie.Need-same-length
 same-length c = search needs
 
 returns : tie.Need-returns
-returns c = record-written _ (c .before .before .before .before .before .before .before .before .before .before .before .before .before .before .before .before .before .before .before .args .out .now) _ _ _ _ (c .before .before .before .before .before .before .before .before .before .before .before .before .before .before .before .before .before .before .before .pre) (c .before .before .before .before .before .before .before .before .before .before .before .before .before .before .before .before .put-head .ensures) (c .before .before .before .before .before .before .before .before .before .before .before .put-places .ensures) (c .before .before .before .before .before .before .put-places2 .ensures) (c .before .before .put-u32 .ensures)
+returns c =
+    let p = c .before .before .before .before .before .before .before .before .before .before .before .before .before .before .before .before .before .before .before in
+    record-written _ (p .args .out .now) _ _ _ _ (p .pre) (c .before .before .before .before .before .before .before .before .before .before .before .before .before .before .before .before .put-head .ensures) (c .before .before .before .before .before .before .before .before .before .before .before .put-places .ensures) (c .before .before .before .before .before .before .put-places2 .ensures) (c .before .before .put-u32 .ensures)
 
 pub encode-spec : {M : Type 1} → statement M
 encode-spec =

@@ -1,7 +1,7 @@
 -- `sheet_writer::writer::put_head` meets its contract: twelve stores fill twelve bytes. Assumes nothing.
 use lib.ListN.{length-set}
 use Rattle.base.specs.WriteLaws.{fill}
-use Rattle.sheet_writer.specs.WriterLaws.{headOf}
+use Rattle.sheet_writer.specs.Written.{headOf}
 use native.Mathlib.Omega.{arith}
 use borrow.Author.Needs.{needs}
 use Rattle.sheet_writer.proofs.writer.put_head.Statement.{statement}
@@ -65,7 +65,9 @@ same-length : tie.Need-same-length
 same-length c = simp length-set
 
 returns : tie.Need-returns
-returns c = fill (c .before .before .before .before .before .before .args .out .now) (headOf (c .before .before .before .before .before .before .args .r)) (c .before .before .before .before .before .before .pre)
+returns c =
+    let p = c .before .before .before .before .before .before in
+    fill (p .args .out .now) (headOf (p .args .r)) (p .pre)
 
 pub put-head-spec : {M : Type 1} → statement M
 put-head-spec =

@@ -4,7 +4,7 @@ use Prim.Native.Nat.{_-_}
 use lib.Seq.{take-all}
 use Rattle.base.specs.Sizes.{listPlaces}
 use Rattle.base.specs.CopyLaws.{Copied, copied-none, copied-more, copied-all}
-use Rattle.sheet_writer.specs.WriterLaws.{padded-full}
+use Rattle.sheet_writer.specs.EncodeLaws.{padded-full}
 use borrow.Author.Needs.{needs}
 use native.Mathlib.Nat.{zero-add}
 use native.Mathlib.Omega.{arith}

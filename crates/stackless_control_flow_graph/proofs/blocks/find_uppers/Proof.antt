@@ -23,11 +23,11 @@ loop-holds c = (search needs, search needs, refl, λ code size m. uppers-begin c
 sub-k : tie.Need-sub-k Inv-loop μ-loop
 sub-k c = search needs
 
-sub-narrow : tie.Need-sub-narrow Inv-loop μ-loop
-sub-narrow c = omega (arith, c .before .loop .inv .1 .low, c .before .loop .inv .1 .high)
+sub-usize-to-u16 : tie.Need-sub-usize-to-u16 Inv-loop μ-loop
+sub-usize-to-u16 c = omega (arith, c .before .loop .inv .1 .low, c .before .loop .inv .1 .high)
 
-narrow-requires : tie.Need-narrow-requires Inv-loop μ-loop
-narrow-requires c κs = omega (arith, c .before .loop .inv .1 .low, c .before .loop .inv .1 .high)
+usize-to-u16-requires : tie.Need-usize-to-u16-requires Inv-loop μ-loop
+usize-to-u16-requires c κs = omega (arith, c .before .loop .inv .1 .low, c .before .loop .inv .1 .high)
 
 mul-uppers : tie.Need-mul-uppers Inv-loop μ-loop
 mul-uppers c = omega (arith, c .before .before .loop .inv .2)
@@ -52,7 +52,7 @@ loop-again c =
       search needs,
       between mark (l .k - 1) (l .end) (c .pick .result) (c .pick .ensures) (record { low = omega arith; high = omega arith }) (record { low = omega (arith, i .1 .low); high = i .1 .high }),
       rw length-set (i .2),
-      λ code size m. uppers-turn code _ _ _ _ _ _ m (omega arith) (omega arith) (omega (arith, i .2)) (c .before .before .narrow .ensures) (c .pick .ensures) (i .3 code size m),
+      λ code size m. uppers-turn code _ _ _ _ _ _ m (omega arith) (omega arith) (omega (arith, i .2)) (c .before .before .usize-to-u16 .ensures) (c .pick .ensures) (i .3 code size m),
     )
 
 same-length : tie.Need-same-length Inv-loop μ-loop
@@ -72,8 +72,8 @@ find-uppers-spec =
     μ-loop
     loop-holds
     sub-k
-    sub-narrow
-    narrow-requires
+    sub-usize-to-u16
+    usize-to-u16-requires
     mul-uppers
     slice-write-uppers
     shared-slice-read-pick

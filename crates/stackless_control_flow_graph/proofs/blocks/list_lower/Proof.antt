@@ -5,8 +5,8 @@ use borrow.Author.Needs.{needs}
 use Rattle.stackless_control_flow_graph.proofs.blocks.list_lower.Statement.{statement}
 use Rattle.stackless_control_flow_graph.proofs.blocks.list_lower.Tie as tie
 
-narrow-requires : tie.Need-narrow-requires
-narrow-requires c κs = search needs
+usize-to-u16-requires : tie.Need-usize-to-u16-requires
+usize-to-u16-requires c κs = search needs
 
 mul-lowers : tie.Need-mul-lowers
 mul-lowers c = search needs
@@ -21,7 +21,7 @@ same-length : tie.Need-same-length
 same-length c = search needs
 
 returns : tie.Need-returns
-returns c = rw (c .before .if1 .taken, c .narrow .ensures) (listing-one _ _ _ (search needs))
+returns c = rw (c .before .if1 .taken, c .usize-to-u16 .ensures) (listing-one _ _ _ (search needs))
 
 returns-2 : tie.Need-returns-2
 returns-2 c = rw (ne-eqb _ _ (c .if1 .left)) (listing-none _ _)
@@ -30,7 +30,7 @@ pub list-lower-spec : {M : Type 1} → statement M
 list-lower-spec =
     tie.close
     (tie.spec
-    narrow-requires
+    usize-to-u16-requires
     mul-lowers
     slice-write-lowers
     add-result

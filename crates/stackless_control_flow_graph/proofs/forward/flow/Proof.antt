@@ -1,9 +1,12 @@
 -- `forward::flow` meets its contract: the refusal of the checks, or else the table. Assumes nothing.
-use Rattle.sheet.specs.Checks.{answerOf}
-use Rattle.sheet.specs.Valid.{accepted-valid}
+use Rattle.base.specs.Refusals.{verdictOf}
+use Rattle.base.specs.RefusalLaws.{accepted-by}
+use Rattle.base.specs.ReplyLaws.{refuses, refused-number}
+use Rattle.sheet.specs.ValidLaws.{accepted-valid}
 use Rattle.stackless_control_flow_graph.proofs.forward.flow.Statement.{statement}
 use Rattle.stackless_control_flow_graph.proofs.forward.flow.Tie as tie
-use Rattle.stackless_control_flow_graph.specs.CallLaws.{flow-refused, no-result, no-left, into-given}
+use Rattle.stackless_control_flow_graph.specs.CallLaws.{flow-refused, into-checked}
+use Rattle.stackless_control_flow_graph.specs.FlowMeaningLaws.{flow-means}
 use borrow.Author.Needs.{needs}
 use lib.ListN.{length}
 use mathlib.Core.Path.{sym, ap, _∙_}
@@ -23,7 +26,7 @@ enum-told c = search needs
 
 u16-at-requires : tie.Need-u16-at-requires
 u16-at-requires c κs =
-    let v = accepted-valid (c .before .before .before .before .before .before .before .args .sheet .now) (sym (c .before .before .before .check-into .ensures .0) ∙ ap answerOf (c .enum-told .given .1)) in
+    let v = accepted-valid (c .before .before .before .before .before .before .before .args .sheet .now) (sym (c .before .before .before .check-into .ensures .0) ∙ ap verdictOf (c .enum-told .given .1)) in
     omega (arith, v .size)
 
 cast-n : tie.Need-cast-n
@@ -34,19 +37,25 @@ slice-aggregate-table-of c = search needs
 
 table-of-requires : tie.Need-table-of-requires
 table-of-requires c κs =
-    let yes = ap answerOf (c .before .before .before .enum-told .given .1) in
-    into-given _ _ _ (sym (c .before .before .before .before .before .before .check-into .ensures .0) ∙ yes) (c .before .before .u16-at .ensures) (c .before .before .before .before .before .before .check-into .ensures .1 yes) (c .before .before .before .before .before .before .check-into .kept .1 .0)
+    let c6 = c .before .before .before .before .before .before in
+    let yes = ap verdictOf (c .before .before .before .enum-told .given .1) in
+    into-checked _ _ _ (sym (c6 .check-into .ensures .0) ∙ yes) (c .before .before .u16-at .ensures) (c6 .check-into .ensures .1 yes) (c6 .check-into .kept .1 .0)
 
 returns : tie.Need-returns
 returns c =
-    let e = flow-refused (c .before .before .before .before .before .before .before .before .args .sheet .now) (length (c .before .before .before .before .before .before .before .before .args .table .now)) _ _ (sym (c .before .before .before .before .check-into .ensures .0) ∙ ap answerOf (c .before .f .given .1)) in
-    (no-result _ _ _ e, no-left _ _ _ _ e)
+    let c8 = c .before .before .before .before .before .before .before .before in
+    let e = flow-refused (c8 .args .sheet .now) (length (c8 .args .table .now)) (sym (c .before .before .before .before .check-into .ensures .0) ∙ ap verdictOf (c .before .f .given .1)) in
+    let r = refuses _ e in
+    (r .result, (r .same, λ z. absurd (refused-number (c .before .f .given .0 .0) z)))
 
 same-length : tie.Need-same-length
 same-length c = search needs
 
 returns-2 : tie.Need-returns-2
-returns-2 c = search needs
+returns-2 c =
+    let a = c .before .before .before .before .before .before .before .before .before .before .before .before .before .args in
+    let t = c .before .before .table-of .ensures in
+    (t .0, (t .1, flow-means (a .sheet .now) (a .table .now) _ _ (accepted-by _ (c .before .before .before .before .before .before .before .before .before .check-into .ensures .0) (c .before .before .before .before .before .before .enum-told .given .1)) (t .0) (t .1)))
 
 pub flow-spec : {M : Type 1} → statement M
 flow-spec =

@@ -33,14 +33,14 @@ is-exit-requires c κs = search needs
 succ-keys-requires : tie.Need-succ-keys-requires
 succ-keys-requires c κs = search needs
 
-narrow-requires : tie.Need-narrow-requires
-narrow-requires c κs = search needs
+usize-to-u16-requires : tie.Need-usize-to-u16-requires
+usize-to-u16-requires c κs = search needs
 
 slice-write-out : tie.Need-slice-write-out
 slice-write-out c = search needs
 
-narrow-requires-2 : tie.Need-narrow-requires-2
-narrow-requires-2 c κs = search needs
+usize-to-u16-requires-2 : tie.Need-usize-to-u16-requires-2
+usize-to-u16-requires-2 c κs = search needs
 
 slice-write-out-2 : tie.Need-slice-write-out-2
 slice-write-out-2 c = search needs
@@ -68,8 +68,11 @@ same-length c = simp length-set
 
 returns : tie.Need-returns
 returns c =
-    let a = c .before .before .before .before .before .before .before .before .before .before .before .before .args in
-    row-put (a .out .now) (a .sheet .now) (a .goes .now) (a .key .now) (a .l) (a .u) (c .before .before .narrow .result) (c .before .narrow2 .result) (c .before .before .before .succ-keys .result) (c .before .before .before .before .is-exit .result) (c .before .before .before .before .before .before .before .instruction-at .result) (c .before .before .before .before .before .before .before .before .before .before .before .before .pre .4) (c .before .before .narrow .ensures) (c .before .narrow2 .ensures) (c .before .before .before .succ-keys .ensures) (c .before .before .before .before .is-exit .ensures) (c .before .before .before .before .before .before .before .instruction-at .ensures)
+    let c4 = c .before .before .before .before in
+    let c7 = c4 .before .before .before in
+    let c12 = c7 .before .before .before .before .before in
+    let a = c12 .args in
+    row-put (a .out .now) (a .sheet .now) (a .goes .now) (a .keys .now) (a .l) (a .u) (c .before .before .usize-to-u16 .result) (c .before .usize-to-u162 .result) (c .before .before .before .succ-keys .result) (c4 .is-exit .result) (c7 .instruction-at .result) (c12 .pre .4) (c .before .before .usize-to-u16 .ensures) (c .before .usize-to-u162 .ensures) (c .before .before .before .succ-keys .ensures) (c4 .is-exit .ensures) (c7 .instruction-at .ensures)
 
 pub write-row-spec : {M : Type 1} → statement M
 write-row-spec =
@@ -84,9 +87,9 @@ write-row-spec =
     shared-slice-read-succ-keys-2
     is-exit-requires
     succ-keys-requires
-    narrow-requires
+    usize-to-u16-requires
     slice-write-out
-    narrow-requires-2
+    usize-to-u16-requires-2
     slice-write-out-2
     mul-out
     shared-slice-read-out

@@ -14,45 +14,45 @@ use Rattle.stackless_control_flow_graph.proofs.rows.write_rows.Statemen
 use Rattle.stackless_control_flow_graph.proofs.rows.write_rows.Tie as tie
 
 abbrev Inv-loop : tie.InvT-loop
-Inv-loop sheet goes lowers m uppers key table₀ b₀ table b = (b ≤ m) × (table ≡ gather (rowIn sheet goes uppers key) (take b lowers) ++ drop (6 * b) table₀)
+Inv-loop sheet goes lowers m uppers keys table₀ b₀ table b = (b ≤ m) × (table ≡ gather (rowIn sheet goes uppers keys) (take b lowers) ++ drop (6 * b) table₀)
 
 abbrev μ-loop : tie.MeasureT-loop
-μ-loop sheet goes lowers m uppers key table₀ b₀ table b = m - b
+μ-loop sheet goes lowers m uppers keys table₀ b₀ table b = m - b
 
 loop-holds : tie.Need-loop-holds Inv-loop μ-loop
 unfolding gather
 loop-holds c = (search needs, refl)
 
-mul-wide : tie.Need-mul-wide Inv-loop μ-loop
-mul-wide c = search needs
+mul-u16-to-usize : tie.Need-mul-u16-to-usize Inv-loop μ-loop
+mul-u16-to-usize c = search needs
 
-shared-slice-read-wide : tie.Need-shared-slice-read-wide Inv-loop μ-loop
-shared-slice-read-wide c = search needs
+shared-slice-read-u16-to-usize : tie.Need-shared-slice-read-u16-to-usize Inv-loop μ-loop
+shared-slice-read-u16-to-usize c = search needs
 
-wide-requires : tie.Need-wide-requires Inv-loop μ-loop
-wide-requires c κs = search needs
+u16-to-usize-requires : tie.Need-u16-to-usize-requires Inv-loop μ-loop
+u16-to-usize-requires c κs = search needs
 
 -- the block's lower and upper
-lower-is : (c : tie.After-wide Inv-loop μ-loop) → c .wide .result ≡ getD (c .before .before .before .before .before .before .before .before .before .before .args .lowers .now) (c .before .before .before .loop .b) 0
-lower-is c = c .wide .ensures
+lower-is : (c : tie.After-u16-to-usize Inv-loop μ-loop) → c .u16-to-usize .result ≡ getD (c .before .before .before .before .before .before .before .before .before .before .args .lowers .now) (c .before .before .before .loop .b) 0
+lower-is c = c .u16-to-usize .ensures .0
 
-upper-is : (c : tie.After-wide2 Inv-loop μ-loop) → c .wide2 .result ≡ getD (c .before .before .before .before .before .before .before .before .before .before .before .before .args .uppers .now) (getD (c .before .before .before .before .before .before .before .before .before .before .before .before .args .lowers .now) (c .before .before .before .before .before .loop .b) 0) 0
-upper-is c = c .wide2 .ensures ∙ ap (λ (x : ℕ). getD (c .before .before .before .before .before .before .before .before .before .before .before .before .args .uppers .now) x 0) (lower-is (c .before .before))
+upper-is : (c : tie.After-u16-to-usize2 Inv-loop μ-loop) → c .u16-to-usize2 .result ≡ getD (c .before .before .before .before .before .before .before .before .before .before .before .before .args .uppers .now) (getD (c .before .before .before .before .before .before .before .before .before .before .before .before .args .lowers .now) (c .before .before .before .before .before .loop .b) 0) 0
+upper-is c = c .u16-to-usize2 .ensures .0 ∙ ap (λ (x : ℕ). getD (c .before .before .before .before .before .before .before .before .before .before .before .before .args .uppers .now) x 0) (lower-is (c .before .before))
 
 -- the table keeps its length
 kept : (c : tie.At-loop Inv-loop μ-loop) → length (c .loop .table) ≡ length (c .before .before .before .before .before .before .before .args .table .now)
 kept c =
     let a = c .before .before .before .before .before .before .before .args in
-    ap length (c .loop .inv .1) ∙ rows-kept (a .sheet .now) (a .goes .now) (a .uppers .now) (a .key .now) (a .lowers .now) (a .table .now) (c .loop .b) (omega (arith, c .before .before .before .before .before .before .before .pre .0 .blocks)) (omega arith)
+    ap length (c .loop .inv .1) ∙ rows-kept (a .sheet .now) (a .goes .now) (a .uppers .now) (a .keys .now) (a .lowers .now) (a .table .now) (c .loop .b) (omega (arith, c .before .before .before .before .before .before .before .pre .0 .blocks)) (omega arith)
 
-mul-wide-2 : tie.Need-mul-wide-2 Inv-loop μ-loop
-mul-wide-2 c = omega (arith, lower-is c, c .before .before .before .before .before .before .before .before .before .before .pre .0 .lower (c .before .before .before .loop .b) (search needs))
+mul-u16-to-usize-2 : tie.Need-mul-u16-to-usize-2 Inv-loop μ-loop
+mul-u16-to-usize-2 c = omega (arith, lower-is c, c .before .before .before .before .before .before .before .before .before .before .pre .0 .lower (c .before .before .before .loop .b) (search needs))
 
-shared-slice-read-wide-2 : tie.Need-shared-slice-read-wide-2 Inv-loop μ-loop
-shared-slice-read-wide-2 c = omega (arith, lower-is (c .before), c .before .before .before .before .before .before .before .before .before .before .before .pre .0 .upper (c .before .before .before .before .loop .b) (search needs))
+shared-slice-read-u16-to-usize-2 : tie.Need-shared-slice-read-u16-to-usize-2 Inv-loop μ-loop
+shared-slice-read-u16-to-usize-2 c = omega (arith, lower-is (c .before), c .before .before .before .before .before .before .before .before .before .before .before .pre .0 .upper (c .before .before .before .before .loop .b) (search needs))
 
-wide-requires-2 : tie.Need-wide-requires-2 Inv-loop μ-loop
-wide-requires-2 c κs = search needs
+u16-to-usize-requires-2 : tie.Need-u16-to-usize-requires-2 Inv-loop μ-loop
+u16-to-usize-requires-2 c κs = search needs
 
 mul-at : tie.Need-mul-at Inv-loop μ-loop
 mul-at c = search needs
@@ -79,7 +79,7 @@ write-row-requires c κs =
     let r = c .before .before .before .before .before .before .before .before .before .before .before .before .before .pre .0 in
     let six : 6 * b + 6 - 6 * b ≡ 6 = omega arith in (
       rw (upper-is (c .before)) (c .before .before .before .before .before .before .before .before .before .before .before .before .before .pre .1 b (search needs)),
-      near (length (a .key .now)) (a .goes .now) (c .before .before .before .wide .result) (c .before .wide2 .result) (omega (arith, lower-is (c .before .before .before), r .lower b (search needs))) (rw (upper-is (c .before)) (r .next b (search needs))),
+      near (length (a .keys .now)) (a .goes .now) (c .before .before .before .u16-to-usize .result) (c .before .u16-to-usize2 .result) (omega (arith, lower-is (c .before .before .before), r .lower b (search needs))) (rw (upper-is (c .before)) (r .next b (search needs))),
       omega (arith, upper-is (c .before), r .places b (search needs)),
       c .before .before .before .before .before .before .before .before .before .before .before .before .before .pre .2,
       rw six (length-take-le 6 (drop (6 * b) (c .before .before .before .before .before .before .loop .table)) (omega (arith, kept (c .before .before .before .before .before .before), length-drop (6 * b) (c .before .before .before .before .before .before .loop .table)))),
@@ -96,7 +96,7 @@ loop-again c =
     let a = c .before .before .before .before .before .before .before .before .before .before .before .before .before .before .before .before .args in
     let b = c .before .before .before .before .before .before .before .before .before .loop .b in
     let six : 6 * b + 6 - 6 * b ≡ 6 = omega arith in
-    (search needs, rw six (rows-more (a .sheet .now) (a .goes .now) (a .uppers .now) (a .key .now) (a .lowers .now) (a .table .now) b (c .before .before .before .before .before .before .wide .result) (c .before .before .before .before .wide2 .result) (c .before .before .before .before .before .before .before .before .before .loop .table) (c .before .before .write-row .last .1 .1 .1 .1 .1 .0) (omega (arith, c .before .before .before .before .before .before .before .before .before .before .before .before .before .before .before .before .pre .0 .blocks)) (c .before .before .before .before .before .before .wide .ensures) (c .before .before .before .before .wide2 .ensures) (c .before .before .before .before .before .before .before .before .before .loop .inv .1) (c .before .before .write-row .ensures)))
+    (search needs, rw six (rows-more (a .sheet .now) (a .goes .now) (a .uppers .now) (a .keys .now) (a .lowers .now) (a .table .now) b (c .before .before .before .before .before .before .u16-to-usize .result) (c .before .before .before .before .u16-to-usize2 .result) (c .before .before .before .before .before .before .before .before .before .loop .table) (c .before .before .write-row .last .1 .1 .1 .1 .1 .0) (omega (arith, c .before .before .before .before .before .before .before .before .before .before .before .before .before .before .before .before .pre .0 .blocks)) (c .before .before .before .before .before .before .u16-to-usize .ensures .0) (c .before .before .before .before .u16-to-usize2 .ensures .0) (c .before .before .before .before .before .before .before .before .before .loop .inv .1) (c .before .before .write-row .ensures)))
 
 same-length : tie.Need-same-length Inv-loop μ-loop
 same-length c = kept (c .before)
@@ -113,12 +113,12 @@ write-rows-spec =
     Inv-loop
     μ-loop
     loop-holds
-    mul-wide
-    shared-slice-read-wide
-    wide-requires
-    mul-wide-2
-    shared-slice-read-wide-2
-    wide-requires-2
+    mul-u16-to-usize
+    shared-slice-read-u16-to-usize
+    u16-to-usize-requires
+    mul-u16-to-usize-2
+    shared-slice-read-u16-to-usize-2
+    u16-to-usize-requires-2
     mul-at
     add-write-row
     mul-write-row

@@ -4,17 +4,17 @@ use mathlib.Core.Logic.{⊎-elim}
 use Rattle.sheet.specs.Layout.{codeOf}
 use Rattle.stackless_bytecode.specs.Successors.{successors}
 use Rattle.stackless_control_flow_graph.specs.Arrays.{listOf}
-use Rattle.stackless_bytecode.specs.SlotLaws.{Below}
+use Rattle.stackless_bytecode.specs.SlotLaws.{LabelsBelow}
 use mathlib.Core.Path.{_≡_, sym, _∙_}
 use Rattle.sheet.specs.Shaped.{record-inside}
-use Rattle.stackless_control_flow_graph.specs.GivenLaws.{given-shaped, next-is, next-within, visit-quiet, visit-branch}
+use Rattle.stackless_control_flow_graph.specs.CheckedSheetLaws.{checked-shaped, next-is, next-within, visit-quiet, visit-branch}
 use native.Mathlib.Omega.{arith}
 use borrow.Author.Needs.{needs}
 use Rattle.stackless_control_flow_graph.proofs.starts.visit.Statement.{statement}
 use Rattle.stackless_control_flow_graph.proofs.starts.visit.Tie as tie
 
 instruction-at-requires : tie.Need-instruction-at-requires
-instruction-at-requires c κs = (record-inside (given-shaped (c .before .before .before .before .pre .0)) _ (search needs), omega (arith, given-shaped (c .before .before .before .before .pre .0) .few))
+instruction-at-requires c κs = (record-inside (checked-shaped (c .before .before .before .before .pre .0)) _ (search needs), omega (arith, checked-shaped (c .before .before .before .before .pre .0) .few))
 
 mul-at : tie.Need-mul-at
 mul-at c = search needs
@@ -37,8 +37,8 @@ mul-by-kind-2 c = search needs
 shared-slice-read-by-kind-2 : tie.Need-shared-slice-read-by-kind-2
 shared-slice-read-by-kind-2 c = search needs
 
-narrow-requires : tie.Need-narrow-requires
-narrow-requires c κs = omega (arith, given-shaped (c .before .before .before .before .before .before .before .pre .0) .few)
+usize-to-u16-requires : tie.Need-usize-to-u16-requires
+usize-to-u16-requires c κs = omega (arith, checked-shaped (c .before .before .before .before .before .before .before .pre .0) .few)
 
 by-kind-requires : tie.Need-by-kind-requires
 by-kind-requires c κs = search needs
@@ -50,15 +50,17 @@ is-branch-requires : tie.Need-is-branch-requires
 is-branch-requires c κs = search needs
 
 -- the record that is read has labels of 16 bits
-below : (c : tie.After-instruction-at) → Below (c .instruction-at .result)
+below : (c : tie.After-instruction-at) → LabelsBelow (c .instruction-at .result)
 below c = record { one = search needs; two = search needs }
 
 succs-are : (c : tie.After-by-kind) → listOf (c .by-kind .result) ≡ successors (codeOf (c .before .before .before .before .before .before .before .before .before .args .sheet .now)) (c .before .before .before .before .before .before .before .before .before .args .k)
 succs-are c =
-    next-is (c .before .before .before .before .before .before .before .before .before .pre .0) (c .before .before .before .before .before .before .before .before .before .args .k) (c .before .before .before .before .before .before .before .before .before .pre .1) (c .before .before .before .before .instruction-at .result) (c .before .before .before .before .instruction-at .ensures) (below (c .before .before .before .before)) (c .by-kind .result) (c .before .narrow .result) (c .before .narrow .ensures) (c .by-kind .ensures)
+    let c4 = c .before .before .before .before in
+    let c9 = c4 .before .before .before .before .before in
+    next-is (c9 .pre .0) (c9 .args .k) (c9 .pre .1) (c4 .instruction-at .result) (c4 .instruction-at .ensures) (below (c4)) (c .by-kind .result) (c .before .usize-to-u16 .result) (c .before .usize-to-u16 .ensures) (c .by-kind .ensures)
 
-mark-requires : tie.Need-mark-requires
-mark-requires c κs =
+mark-starts-requires : tie.Need-mark-starts-requires
+mark-starts-requires c κs =
     let w = next-within (c .before .before .before .before .before .before .before .before .before .before .before .before .before .before .before .before .pre .0) (c .before .before .before .before .before .before .before .before .before .before .before .before .before .before .before .before .args .k) (c .before .before .before .before .before .before .before .before .before .before .before .before .before .before .before .before .pre .1) (c .before .before .before .before .before .before .before .before .before .before .before .instruction-at .result) (c .before .before .before .before .before .before .before .before .before .before .before .instruction-at .ensures) (below (c .before .before .before .before .before .before .before .before .before .before .before)) (c .before .before .before .before .before .before .before .by-kind .result) (succs-are (c .before .before .before .before .before .before .before)) in
     record { each = λ x i. ⊎-elim (λ e. omega arith) (λ t. omega (arith, w .each x t)) (List·Memᴰ·cases-cons i) }
 
@@ -70,7 +72,7 @@ same-length-2 c = search needs
 
 returns : tie.Need-returns
 returns c =
-    rw (c .before .before .before .before .before .before .before .before .put-two .ensures, c .before .before .mark .ensures)
+    rw (c .before .before .before .before .before .before .before .before .put-two .ensures, c .before .before .mark-starts .ensures)
     (visit-branch (c .before .before .before .before .before .before .before .before .before .before .before .before .before .before .before .before .before .before .before .pre .0) (c .before .before .before .before .before .before .before .before .before .before .before .before .before .before .before .before .before .before .before .args .k) (c .before .before .before .before .before .before .before .before .before .before .before .before .before .before .before .before .before .before .before .pre .1) (c .before .before .before .before .before .before .before .before .before .before .before .before .before .before .instruction-at .result) (c .before .before .before .before .before .before .before .before .before .before .before .before .before .before .instruction-at .ensures) (below (c .before .before .before .before .before .before .before .before .before .before .before .before .before .before)) _ _ (c .before .before .before .before .before .before .before .before .before .before .by-kind .result) (search needs) (search needs) (succs-are (c .before .before .before .before .before .before .before .before .before .before))
     (sym (c .before .before .before .before .before .is-branch .ensures) ∙ c .before .before .before .before .if1 .taken))
 
@@ -95,11 +97,11 @@ visit-spec =
     add-by-kind
     mul-by-kind-2
     shared-slice-read-by-kind-2
-    narrow-requires
+    usize-to-u16-requires
     by-kind-requires
     put-two-requires
     is-branch-requires
-    mark-requires
+    mark-starts-requires
     same-length
     same-length-2
     returns

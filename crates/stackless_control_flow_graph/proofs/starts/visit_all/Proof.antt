@@ -3,16 +3,16 @@ use mathlib.Core.Path.{_≡_, refl, _∙_}
 use Prim.Native.Nat.{_≤_, _-_}
 use lib.ListN.{length, length-set}
 use Rattle.sheet.specs.Layout.{codeOf}
-use Rattle.stackless_control_flow_graph.specs.GivenLaws.{given-size, marks-begin}
+use Rattle.stackless_control_flow_graph.specs.CheckedSheetLaws.{checked-size, marks-begin}
 use Rattle.stackless_control_flow_graph.specs.StartLaws.{marks-end}
-use Rattle.stackless_control_flow_graph.specs.Arrays.{Going, Marking}
+use Rattle.stackless_control_flow_graph.specs.Arrays.{SuccessorsTo, Marking}
 use borrow.Author.Needs.{needs}
 use native.Mathlib.Omega.{arith}
 use Rattle.stackless_control_flow_graph.proofs.starts.visit_all.Statement.{statement}
 use Rattle.stackless_control_flow_graph.proofs.starts.visit_all.Tie as tie
 
 abbrev Inv-loop : tie.InvT-loop
-Inv-loop sheet n targets goes₀ marks₀ k₀ goes marks k = (k ≤ n) × (length goes ≡ length goes₀) × (length marks ≡ length marks₀) × Going (codeOf sheet) k goes × Marking (codeOf sheet) k marks
+Inv-loop sheet n targets goes₀ marks₀ k₀ goes marks k = (k ≤ n) × (length goes ≡ length goes₀) × (length marks ≡ length marks₀) × SuccessorsTo (codeOf sheet) k goes × Marking (codeOf sheet) k marks
 
 abbrev μ-loop : tie.MeasureT-loop
 μ-loop sheet n targets goes₀ marks₀ k₀ goes marks k = n - k
@@ -47,7 +47,7 @@ same-length-2 c = c .before .loop .inv .2 ∙ length-set (c .before .before .bef
 returns : tie.Need-returns Inv-loop μ-loop
 returns c =
     let n : c .before .loop .k ≡ c .before .before .before .before .before .before .args .n = omega arith in
-    let size = given-size (c .before .before .before .before .before .before .pre .0) in
+    let size = checked-size (c .before .before .before .before .before .before .pre .0) in
     (rw (← n) (c .before .loop .inv .3), marks-end _ _ (rw (size, ← n) (c .before .loop .inv .4)))
 
 pub visit-all-spec : {M : Type 1} → statement M

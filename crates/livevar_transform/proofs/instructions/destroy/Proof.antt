@@ -1,0 +1,16 @@
+-- `livevar_transform::instructions::destroy` meets its contract. Assumes nothing.
+use mathlib.Core.Path.{refl}
+use Rattle.sheet.specs.Layout.{padded}
+use borrow.Author.Needs.{needs}
+use Rattle.livevar_transform.proofs.instructions.destroy.Statement.{statement}
+use Rattle.livevar_transform.proofs.instructions.destroy.Tie as tie
+
+array-write-srcs : tie.Need-array-write-srcs
+array-write-srcs c = search needs
+
+returns : tie.Need-returns
+unfolding padded
+returns c = refl
+
+pub destroy-spec : {M : Type 1} → statement M
+destroy-spec = tie.close (tie.spec array-write-srcs returns)

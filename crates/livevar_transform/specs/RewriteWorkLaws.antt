@@ -1,0 +1,92 @@
+-- When the rewriting worker gives refusals 10 and 11, and what it answers. Assumes nothing.
+use mathlib.Core.Path.{_≡_, refl, sym, ap, ap₂, _∙_}
+use mathlib.Core.Bool.{Bool, true, false}
+use mathlib.Core.List.{List, _++_}
+use Prim.Native.Nat.{ℕ, _+_, _-_, _*_, _≤_, _<_}
+use native.Mathlib.Omega.{arith}
+use borrow.Author.Tests.{le-leb, lt-leb}
+use lib.Dec.{leb}
+use lib.ListN.{length, drop, length-replicate}
+use Rattle.base.specs.Sizes.{refsAt, setBytes, maxInstructions, maxBlocks}
+use Rattle.base.specs.Bytes.{number, part}
+use Rattle.base.specs.Refusals.{Done}
+use Rattle.base.specs.RefusalLaws.{accepted-whole, refused-whole}
+use Rattle.base.specs.ReplyLaws.{call-refused, call-goes, reply-refused, reply-done, refuses, done-result, done-output}
+use Rattle.base.specs.declared.Refusal.the-variants.{NumberTooHigh, CodeTooLong}
+use Rattle.base.specs.declared.Answer.the-variants.{Value, Refused}
+use Rattle.stackless_bytecode.specs.declared.Bytecode.{Bytecode}
+use Rattle.sheet.specs.Layout.{headingRest, refsOf, codeOf, sheetOf}
+use Rattle.sheet_writer.specs.Written.{placed, bodyBytes, Holds, SheetWritten}
+use Rattle.sheet_writer.specs.SheetLaws.{few-blocks}
+use Rattle.livevar_analysis.specs.Analysis.{infosOf}
+use Rattle.livevar_transform.specs.declared.plan.Next.{Next}
+use Rattle.livevar_transform.specs.declared.plan.Counts.{Counts}
+use Rattle.livevar_transform.specs.Rewrite.{nextFreeLabel, nextFreeAttr, transformCode, sheetInfo, newCode, newSheet, numbersFit}
+use Rattle.livevar_transform.specs.Plan.{Ready, PlanRoom, Planned, Tables, Counted, codeBy}
+use Rattle.livevar_transform.specs.PlanLaws.{size, merged-next, fate-merged}
+use Rattle.livevar_transform.specs.NumberLaws.{length-is, written-is}
+use Rattle.livevar_transform.specs.PlannedLaws.{code-is, fit-is}
+use Rattle.livevar_transform.specs.RewriteWork.{Asked, acceptedReply, Answers, fitBetween, Blank}
+
+-- ---- the plan of what is asked, and the first numbers
+
+pub refs-is : (s : List ℕ) (m : ℕ) → m ≡ number (part s refsAt setBytes) → m ≡ refsOf s
+unfolding refsOf
+refs-is s m e = e
+
+pub tables : {s targets info : List ℕ} {n : ℕ} (h : Ready s targets info n) (refs : ℕ) (fates lost : List ℕ) → PlanRoom fates lost n → Planned (codeOf s) (infosOf n info) refs fates lost n → Tables s fates lost n
+tables h refs fates lost room p = record {
+  edge = record { accepted = h .known .accepted; count = h .known .count; few = room .few; edges = room .edges };
+  offsets = room .offsets;
+  behind = λ k l e. merged-next (h .known) k (fate-merged _ _ k (sym (p .fate k l) ∙ e));
+}
+
+module _ {s targets info : List ℕ} {n refs : ℕ} {fates lost : List ℕ} {first : Next} {c : Counts} (a : Asked s targets info n) (mask : refs ≡ refsOf s) (p : Planned (codeOf s) (infosOf n info) refs fates lost n)
+    (label : first .label ≡ nextFreeLabel (codeOf s)) (attr : first .attr ≡ nextFreeAttr (codeOf s)) (k : Counted fates lost n first c) where
+  new-is : codeBy (codeOf s) fates lost n first ≡ newCode s
+  new-is = code-is (codeOf s) (infosOf n info) refs fates lost n first p (size (a .ready .known)) label attr ∙ ap₂ (transformCode (codeOf s)) (a .sets) mask
+
+  ten : (b : Bool) → fitBetween first (c .next) ≡ b → numbersFit (codeOf s) (sheetInfo s) (refsOf s) ≡ b
+  ten b e = sym (fit-is (codeOf s) (infosOf n info) refs fates lost n first p (size (a .ready .known)) label attr (c .next) (k .next) ∙ ap₂ (numbersFit (codeOf s)) (a .sets) mask) ∙ e
+
+  pub long-is : c .kept + (c .next .attr - first .attr) ≡ length (codeBy (codeOf s) fates lost n first)
+  long-is = length-is (codeOf s) first lost fates n (c .kept) (c .next) (k .kept) (k .next)
+
+  long : c .kept + (c .next .attr - first .attr) ≡ length (newCode s)
+  long = long-is ∙ ap length new-is
+
+  pub used-up : first .attr ≤ c .next .attr
+  used-up = written-is (codeOf s) first lost (2 * n) (c .next) (k .next) .0
+
+  -- ---- what is answered
+
+  pub answers-high : (before : List ℕ) → fitBetween first (c .next) ≡ false → Answers s before (Refused NumberTooHigh) before
+  answers-high before e =
+      let r = refuses before (call-refused _ (Done (length (newSheet s)) (newSheet s)) (sym (refused-whole 10 (ten false e)))) in
+      record { result = r .result; written = r .same }
+
+  pub answers-long : (before : List ℕ) → fitBetween first (c .next) ≡ true → maxInstructions < c .kept + (c .next .attr - first .attr) → Answers s before (Refused CodeTooLong) before
+  answers-long before e l =
+      let much : leb (length (newCode s)) maxInstructions ≡ false = lt-leb (length (newCode s)) maxInstructions (omega (arith, long)) in
+      let r = refuses before (call-goes _ (Done (length (newSheet s)) (newSheet s)) (sym (accepted-whole 10 (ten true e))) ∙ reply-refused _ (sym (refused-whole 11 much))) in
+      record { result = r .result; written = r .same }
+
+  pub answers-sheet : (l : ℕ) (before after : List ℕ) → fitBetween first (c .next) ≡ true → c .kept + (c .next .attr - first .attr) ≤ maxInstructions
+      → SheetWritten (sheetOf (headingRest s) (codeBy (codeOf s) fates lost n first)) before l after → Answers s before (Value l) after
+  answers-sheet l before after e f w =
+      let few : leb (length (newCode s)) maxInstructions ≡ true = le-leb (length (newCode s)) maxInstructions (omega (arith, long)) in
+      let r : acceptedReply s ≡ Done (length (newSheet s)) (newSheet s) = call-goes _ (Done (length (newSheet s)) (newSheet s)) (sym (accepted-whole 10 (ten true e))) ∙ reply-done _ (sym (accepted-whole 11 few)) in
+      let same = ap (sheetOf (headingRest s)) new-is in
+      record { result = done-result (w .long ∙ ap length same) r; written = done-output before refl r (w .is ∙ ap (λ (t : List ℕ). t ++ drop (length t) before) same) }
+
+-- ---- the records of the new code
+
+pub blank-long : {flat : List ℕ} → Blank flat → bodyBytes * (maxBlocks - 1) ≤ length flat
+blank-long b = omega (arith, ap length (b .is), length-replicate {A = ℕ} (b .size) 0, b .room)
+
+pub blank-holds : (code : List Bytecode) (before after : List ℕ) → Blank before → length code ≤ maxInstructions → after ≡ placed code before → Holds after code
+blank-holds code before after b l e = record {
+  size = b .size;
+  is = e ∙ ap (placed code) (b .is);
+  room = omega (arith, b .room, few-blocks (length code) l);
+}

@@ -1,0 +1,193 @@
+-- No page is longer than is counted. Assumes nothing.
+use mathlib.Core.Path.{_≡_, refl, sym, subst}
+use mathlib.Core.Bool.{Bool, true, cond}
+use mathlib.Core.Logic.{⊎-elim}
+use mathlib.Core.List.{List, [], _∷_, _++_, map, List·Memᴰ, List·Memᴰ·head, List·Memᴰ·tail, List·Memᴰ·append-cases}
+use Prim.Native.Nat.{ℕ, suc, _*_, _≤_, _<_}
+use native.Mathlib.Omega.{arith}
+use lib.Dec.{eqb}
+use lib.ListN.{length, getD, drop, replicate, length-append, List·getD-eq-default}
+use Rattle.base.specs.Sizes.{rowNumbers, maxNumber, maxInstructions, maxBytes}
+use Rattle.base.specs.Lists.{joins, place}
+use Rattle.base.specs.ListLaws.{by-test, getD-in, in-take, in-drop, in-map, in-gather}
+use Rattle.base.specs.JoinLaws.{by-lt}
+use Rattle.base.specs.Bytes.{part, Bytes}
+use Rattle.base.specs.Refusals.{Verdict, Accepted, Refused, Reply, No, Done}
+use Rattle.stackless_bytecode.specs.declared.Bytecode.{Bytecode}
+use Rattle.stackless_bytecode.specs.Kinds.{at, isExit}
+use Rattle.stackless_bytecode.specs.Successors.{successors}
+use Rattle.stackless_bytecode.specs.Sound.{Sound}
+use Rattle.sheet.specs.Layout.{localsOf, codeOf}
+use Rattle.sheet.specs.Checks.{checkSheet}
+use Rattle.sheet.specs.CheckLaws.{code-sound}
+use Rattle.stackless_control_flow_graph.specs.Blocks.{lowers, blocksOf, upperOf, keyed, keyOf, succKeys, row, flowTable}
+use Rattle.stackless_control_flow_graph.specs.BlockLaws.{upper-lt}
+use Rattle.stackless_control_flow_graph.specs.FlowLaws.{in-lowers, keys-blocks}
+use Rattle.stackless_control_flow_graph.specs.CallLaws.{blocks-few}
+use Rattle.livevar_analysis.specs.Analysis.{LiveVarInfo, analyze}
+use Rattle.livevar_analysis.specs.InputLaws.{few-count}
+use Rattle.livevar_analysis.specs.Term3Laws.{term3}
+use Rattle.livevar_transform.specs.Rewrite.{infoAt, rewriteReply}
+use Rattle.livevar_transform.specs.RewriteAcceptedLaws.{rewritten-accepted}
+use Rattle.listing.specs.Words.{ascii, hex, decimal, said}
+use Rattle.listing.specs.NumberLaws.{decimal-short, hex-length}
+use Rattle.listing.specs.TextLaws.{taken-few, refused-short}
+use Rattle.pages.specs.Words.{marked}
+use Rattle.pages.specs.Code.{localsIn, codeText}
+use Rattle.pages.specs.Page.{boundsText, leadsText, blockLine, flowText, setText, liveLine, liveText, rewrittenText, sections, pageBy, page}
+use Rattle.pages.specs.Size.{numberDigits, payloadDigits, codeBytes, blockLineBytes, flowBytes, setTextBytes, liveLineBytes, liveTextBytes, pageBytes}
+use Rattle.pages.specs.LineSizeLaws.{number-most, said-most, marked-most, joins-most, locals-most, code-most}
+
+-- ---- the numbers of the flow table
+
+-- every number of a list is at most the highest
+pub record Low (xs : List ℕ) : Type 0 where
+  pub each : (x : ℕ) → List·Memᴰ x xs → x ≤ maxNumber
+
+low-part : (t : List ℕ) (a n : ℕ) → Low t → Low (part t a n)
+low-part t a n l = record { each = λ x i. l .each x (in-drop a t (in-take n (drop a t) i)) }
+
+low-at : (t : List ℕ) → Low t → (i : ℕ) → getD t i 0 ≤ maxNumber
+low-at t l i = by-lt i (length t) (λ h. l .each (getD t i 0) (getD-in t i 0 h)) (λ h. omega (arith, List·getD-eq-default t 0 {n = i} h))
+
+place-most : (o : ℕ) (xs : List ℕ) → place o xs ≤ length xs
+unfolding place
+place-most o [] = omega arith
+place-most o (x ∷ xs) = by-test (λ b. cond b 0 (suc (place o xs)) ≤ suc (length xs)) (eqb o x) (λ _. omega arith) (λ _. omega (arith, place-most o xs))
+
+module _ (code : List Bytecode) (sound : Sound code) (few : length code ≤ maxInstructions) where
+  key-low : (o : ℕ) → keyOf (keyed code) o ≤ maxNumber
+  unfolding keyOf
+  key-low o = omega (arith, place-most o (keyed code), keys-blocks code sound, blocks-few code)
+
+  exit-low : (b : Bool) (x : ℕ) → List·Memᴰ x (cond b (1 ∷ []) []) → x ≤ maxNumber
+  exit-low true x (List·Memᴰ·head e) = omega (arith, e)
+
+  none-low : (x : ℕ) → List·Memᴰ x (replicate 3 0) → x ≤ maxNumber
+  none-low x (List·Memᴰ·head e) = omega (arith, e)
+  none-low x (List·Memᴰ·tail (List·Memᴰ·head e)) = omega (arith, e)
+  none-low x (List·Memᴰ·tail (List·Memᴰ·tail (List·Memᴰ·head e))) = omega (arith, e)
+
+  succ-low : (u x : ℕ) → List·Memᴰ x (succKeys code (keyed code) u) → x ≤ maxNumber
+  unfolding succKeys
+  succ-low u x i =
+      ⊎-elim (λ a. ⊎-elim (λ k. let m = in-map (keyOf (keyed code)) (successors code u) x k in subst (λ (y : ℕ). y ≤ maxNumber) (sym (m .2)) (key-low (m .0))) (exit-low (isExit (at code u)) x) (List·Memᴰ·append-cases (map (keyOf (keyed code)) (successors code u)) a)) (none-low x)
+      (List·Memᴰ·append-cases (map (keyOf (keyed code)) (successors code u) ++ cond (isExit (at code u)) (1 ∷ []) []) (in-take 3 _ i))
+
+  row-low : (l x : ℕ) → l < length code → List·Memᴰ x (row code (keyed code) l) → x ≤ maxNumber
+  unfolding row
+  row-low l x h (List·Memᴰ·head e) = omega (arith, e)
+  row-low l x h (List·Memᴰ·tail (List·Memᴰ·head e)) = omega (arith, e, upper-lt code l h)
+  row-low l x h (List·Memᴰ·tail (List·Memᴰ·tail (List·Memᴰ·head e))) = omega (arith, e, key-low l)
+  row-low l x h (List·Memᴰ·tail (List·Memᴰ·tail (List·Memᴰ·tail i))) = succ-low (upperOf code l) x i
+
+  table-low : Low (flowTable code)
+  unfolding flowTable
+  table-low = record { each = λ x i. let g = in-gather (row code (keyed code)) (lowers code) x i in row-low (g .0) x (in-lowers code (g .0) (g .1) .inside) (g .2) }
+
+-- ---- blocks
+
+block-most : (r : List ℕ) → Low r → length (blockLine r) ≤ blockLineBytes
+unfolding blockLine boundsText leadsText
+block-most r low =
+    let digits : (i : ℕ) → length (decimal (getD r i 0)) ≤ numberDigits = λ i. number-most (getD r i 0) (low-at r low i) in
+    omega (
+      arith,
+      length-append (boundsText r ++ leadsText r) (ascii "\n"),
+      length-append (boundsText r) (leadsText r),
+      length-append (decimal (getD r 0 0) ++ said (ascii " to ") (getD r 1 0)) (said (ascii ": key ") (getD r 2 0)),
+      length-append (decimal (getD r 0 0)) (said (ascii " to ") (getD r 1 0)),
+      digits 0,
+      said-most (ascii " to ") (getD r 1 0) numberDigits (digits 1),
+      said-most (ascii ": key ") (getD r 2 0) numberDigits (digits 2),
+      length-append (ascii ", leads to" ++ marked (ascii " ") (getD r 3 0) ++ marked (ascii " ") (getD r 4 0)) (marked (ascii " ") (getD r 5 0)),
+      length-append (ascii ", leads to" ++ marked (ascii " ") (getD r 3 0)) (marked (ascii " ") (getD r 4 0)),
+      length-append (ascii ", leads to") (marked (ascii " ") (getD r 3 0)),
+      marked-most (ascii " ") (getD r 3 0) numberDigits (digits 3),
+      marked-most (ascii " ") (getD r 4 0) numberDigits (digits 4),
+      marked-most (ascii " ") (getD r 5 0) numberDigits (digits 5),
+    )
+
+flow-most : (m : ℕ) (t : List ℕ) → m ≤ maxInstructions → Low t → length (flowText m t) ≤ flowBytes
+unfolding flowText
+flow-most m t h low =
+    omega (
+      arith,
+      length-append (joins m (λ i. blockLine (part t (rowNumbers * i) rowNumbers)) ++ said (ascii "blocks ") m) (ascii "\n"),
+      length-append (joins m (λ i. blockLine (part t (rowNumbers * i) rowNumbers))) (said (ascii "blocks ") m),
+      joins-most blockLineBytes m (λ i. blockLine (part t (rowNumbers * i) rowNumbers)) (λ i l. block-most (part t (rowNumbers * i) rowNumbers) (low-part t (rowNumbers * i) rowNumbers low)),
+      said-most (ascii "blocks ") m numberDigits (number-most m (omega arith)),
+    )
+
+-- ---- live sets
+
+set-most : (m : ℕ) → length (setText m) ≤ setTextBytes
+unfolding setText
+set-most m = omega (arith, length-append (ascii " " ++ hex m) (localsIn m), length-append (ascii " ") (hex m), hex-length m, locals-most m)
+
+live-line-most : (k : ℕ) (i : LiveVarInfo) → k < maxInstructions → length (liveLine k i) ≤ liveLineBytes
+unfolding liveLine
+live-line-most k i h =
+    omega (
+      arith,
+      length-append (decimal k ++ ascii ": before" ++ setText (i .before) ++ ascii ", after" ++ setText (i .after)) (ascii "\n"),
+      length-append (decimal k ++ ascii ": before" ++ setText (i .before) ++ ascii ", after") (setText (i .after)),
+      length-append (decimal k ++ ascii ": before" ++ setText (i .before)) (ascii ", after"),
+      length-append (decimal k ++ ascii ": before") (setText (i .before)),
+      length-append (decimal k) (ascii ": before"),
+      number-most k (omega arith),
+      set-most (i .before),
+      set-most (i .after),
+    )
+
+live-most : (is : List LiveVarInfo) (t : ℕ) → length is ≤ maxInstructions → length (decimal t) ≤ payloadDigits → length (liveText is t) ≤ liveTextBytes
+unfolding liveText
+live-most is t h digits =
+    omega (
+      arith,
+      length-append (joins (length is) (λ k. liveLine k (infoAt is k)) ++ said (ascii "taken ") t) (ascii "\n"),
+      length-append (joins (length is) (λ k. liveLine k (infoAt is k))) (said (ascii "taken ") t),
+      joins-most liveLineBytes (length is) (λ k. liveLine k (infoAt is k)) (λ k l. live-line-most k (infoAt is k) (omega arith)),
+      said-most (ascii "taken ") t payloadDigits digits,
+    )
+
+-- ---- the page
+
+module _ (s : List ℕ) (bytes : Bytes s) (accepted : checkSheet s ≡ Accepted) where
+  rewritten-most : (r : Reply) → rewriteReply s maxBytes ≡ r → length (rewrittenText r) ≤ codeBytes
+  unfolding rewrittenText
+  rewritten-most (No num place) e = omega (arith, refused-short num place)
+  rewritten-most (Done n t) e = let new = rewritten-accepted s t maxBytes n bytes e in code-most t (new .bytes) (new .accepted)
+
+  few : length (codeOf s) ≤ maxInstructions
+  few = few-count s (length (codeOf s)) accepted refl
+
+  sections-most : length (sections s) ≤ pageBytes
+  unfolding sections
+  sections-most =
+      let live = analyze (codeOf s) (localsOf s) in
+      let flow = flowText (blocksOf (codeOf s)) (flowTable (codeOf s)) in
+      let sets = liveText (live .info) (live .taken) in
+      let new = rewrittenText (rewriteReply s maxBytes) in
+      omega (
+        arith,
+        length-append ((ascii "code\n" ++ codeText s) ++ (ascii "\nflow\n" ++ flow) ++ (ascii "\nlive\n" ++ sets)) (ascii "\nrewritten\n" ++ new),
+        length-append ((ascii "code\n" ++ codeText s) ++ (ascii "\nflow\n" ++ flow)) (ascii "\nlive\n" ++ sets),
+        length-append (ascii "code\n" ++ codeText s) (ascii "\nflow\n" ++ flow),
+        length-append (ascii "code\n") (codeText s),
+        length-append (ascii "\nflow\n") flow,
+        length-append (ascii "\nlive\n") sets,
+        length-append (ascii "\nrewritten\n") new,
+        code-most s bytes accepted,
+        flow-most (blocksOf (codeOf s)) (flowTable (codeOf s)) (omega (arith, blocks-few (codeOf s), few)) (table-low (codeOf s) (code-sound s accepted) few),
+        live-most (live .info) (live .taken) (omega (arith, term3 s accepted .count, few)) (decimal-short 9 (live .taken) (omega (arith, taken-few s accepted))),
+        rewritten-most (rewriteReply s maxBytes) refl,
+      )
+
+pub page-short : (s : List ℕ) → Bytes s → length (page s) ≤ pageBytes
+unfolding page pageBy
+page-short s bytes = by (checkSheet s) refl
+  where
+    by : (a : Verdict) → checkSheet s ≡ a → length (pageBy a s) ≤ pageBytes
+    by Accepted e = sections-most s bytes e
+    by (Refused num place) e = omega (arith, refused-short num place)

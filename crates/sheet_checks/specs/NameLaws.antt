@@ -1,0 +1,148 @@
+-- Check 7: the search for a label, one label a turn, and the search for a missing one, one slot a turn. Assumes nothing.
+use mathlib.Core.Path.{_≡_, refl, sym, ap, ap₂, _∙_}
+use mathlib.Core.Bool.{Bool, true, false, cond, _||_}
+use mathlib.Core.List.{List, _∷_}
+use mathlib.Core.Option.{some}
+use Prim.Native.Nat.{ℕ, suc, _+_, _-_, _*_, _/_, _%_, _≤_, _<_}
+use native.Mathlib.Numerals.{add-one}
+use native.Mathlib.Omega.{arith}
+use borrow.Author.Tests.{eq-eqb, ne-eqb}
+use lib.Dec.{eqb}
+use lib.ListN.{getD, set, take, drop, length, length-set, drop-of-length-le}
+use lib.Seq.{drop-cons, getD-take, getD-drop, getD-set-same, getD-set-other}
+use Rattle.base.specs.Sizes.{recordBytes}
+use Rattle.base.specs.Lists.{gather, has, place, firstBad}
+use Rattle.base.specs.ListLaws.{by-eq, has-in}
+use Rattle.base.specs.SearchLaws.{bad-more, bad-stop, bad-end}
+use Rattle.stackless_bytecode.specs.declared.Bytecode.{Bytecode}
+use Rattle.stackless_bytecode.specs.Kinds.{at, branchDests, labelOf}
+use Rattle.stackless_bytecode.specs.Successors.{labelOffset}
+use Rattle.stackless_bytecode.specs.Slots.{noLabel, slotAt, named, halved}
+use Rattle.stackless_bytecode.specs.SlotLaws.{LabelsBelow, slots-first, offset-place, places-length}
+use Rattle.base.specs.declared.Found.the-variants.{At, Nothing}
+use Rattle.sheet.specs.Layout.{recordStart, decode, instructionAt, codeOf}
+use Rattle.sheet.specs.Shaped.{Shaped, code-at}
+use Rattle.base.specs.Refusals.{foundOf}
+use Rattle.sheet.specs.Checks.{namesOk}
+use Rattle.sheet_checks.specs.LocalLaws.{bad-start}
+use Rattle.sheet_checks.specs.Labelled.{LabelLists, Named}
+
+-- ---- one label a turn
+
+-- l is none of the first j labels
+pub record Search (labels : List ℕ) (l j : ℕ) : Type 0 where
+  pub within : j ≤ length labels
+  pub rest : has l labels ≡ has l (drop j labels)
+  pub at-rest : place l labels ≡ j + place l (drop j labels)
+
+pub search-none : (labels : List ℕ) (l : ℕ) → Search labels l 0
+search-none labels l = record { within = omega arith; rest = refl; at-rest = omega arith }
+
+module _ {labels : List ℕ} {l j : ℕ} (s : Search labels l j) where
+  pub search-more : j < length labels → (getD labels j 0 ≡ l → ⊥) → Search labels l (j + 1)
+  unfolding has place
+  search-more h g =
+      let split : drop j labels ≡ getD labels j 0 ∷ drop (j + 1) labels = drop-cons labels j 0 h ∙ ap (λ (x : ℕ). getD labels j 0 ∷ drop x labels) (sym (add-one j)) in
+      let differ : eqb l (getD labels j 0) ≡ false = ne-eqb l (getD labels j 0) (λ e. g (sym e)) in
+      record {
+        within = omega arith;
+        rest = s .rest ∙ ap (has l) split ∙ ap (λ (b : Bool). b || has l (drop (j + 1) labels)) differ;
+        at-rest = omega (arith, s .at-rest, ap (place l) split ∙ ap (λ (b : Bool). cond b 0 (suc (place l (drop (j + 1) labels)))) differ);
+      }
+
+  pub search-found : j < length labels → getD labels j 0 ≡ l → (has l labels ≡ true) × (place l labels ≡ j)
+  unfolding has place
+  search-found h e =
+      let split = drop-cons labels j 0 h in
+      let same : eqb l (getD labels j 0) ≡ true = eq-eqb l (getD labels j 0) (sym e) in
+      (s .rest ∙ ap (has l) split ∙ ap (λ (b : Bool). b || has l (drop (suc j) labels)) same, omega (arith, s .at-rest, ap (place l) split ∙ ap (λ (b : Bool). cond b 0 (suc (place l (drop (suc j) labels)))) same))
+
+  pub search-end : length labels ≤ j → has l labels ≡ false
+  unfolding has
+  search-end h = s .rest ∙ ap (has l) (drop-of-length-le labels h)
+
+-- ---- one slot a turn
+
+-- the first e slots are in order, and those that name a label have its offset
+pub record Slots (code : List Bytecode) (n : ℕ) (targets₀ targets : List ℕ) (e : ℕ) : Type 0 where
+  pub within : e ≤ 2 * n
+  pub same : length targets ≡ length targets₀
+  pub first : firstBad (2 * n) 0 (λ d. named (gather labelOf code) (slotAt code d)) ≡ firstBad (2 * n - e) e (λ d. named (gather labelOf code) (slotAt code d))
+  pub each : (d : ℕ) → d < e → slotAt code d < noLabel → getD targets d 0 ≡ labelOffset code (slotAt code d)
+
+pub slots-none : (code : List Bytecode) (n : ℕ) (targets : List ℕ) → Slots code n targets targets 0
+slots-none code n targets = record { within = omega arith; same = refl; first = bad-start (2 * n) _; each = λ d h. absurd (omega arith) }
+
+module _ {code : List Bytecode} {n : ℕ} {targets₀ targets : List ℕ} {e : ℕ} (s : Slots code n targets₀ targets e) (inside : e < 2 * n) (l : ℕ) (is : slotAt code e ≡ l) where
+  pub slots-skip : l ≡ noLabel → Slots code n targets₀ targets (e + 1)
+  unfolding named
+  slots-skip q = record {
+    within = omega arith;
+    same = s .same;
+    first = s .first ∙ bad-more (2 * n) e _ inside (ap (λ (b : Bool). b || has (slotAt code e) (gather labelOf code)) (eq-eqb (slotAt code e) noLabel (is ∙ q)));
+    each = λ d h b. by-eq d e (λ p. absurd (omega (arith, ap (slotAt code) p))) (λ g. s .each d (omega arith) b);
+  }
+
+  module _ (some-label : l ≡ noLabel → ⊥) where
+    named-is : named (gather labelOf code) (slotAt code e) ≡ has l (gather labelOf code)
+    unfolding named
+    named-is = ap (named (gather labelOf code)) is ∙ ap (λ (b : Bool). b || has l (gather labelOf code)) (ne-eqb l noLabel some-label)
+
+    pub slots-found : {labels places : List ℕ} → LabelLists code labels places → (j : ℕ) → Search labels l j → j < length labels → getD labels j 0 ≡ l
+        → e < length targets → Slots code n targets₀ (set targets e (getD places j 0)) (e + 1)
+    slots-found {labels} {places} lists j search h q room = record {
+      within = omega arith;
+      same = length-set targets e _ ∙ s .same;
+      first = s .first ∙ bad-more (2 * n) e _ inside (named-is ∙ there);
+      each = λ d k b. by-eq d e (λ p. here d p) (λ g. getD-set-other targets e d _ 0 g ∙ s .each d (omega arith) b);
+    }
+      where
+        found : (has l labels ≡ true) × (place l labels ≡ j)
+        found = search-found search h q
+
+        there : has l (gather labelOf code) ≡ true
+        there = ap (has l) (sym (lists .names)) ∙ found .0
+
+        here : (d : ℕ) → d ≡ e → getD (set targets e (getD places j 0)) d 0 ≡ labelOffset code (slotAt code d)
+        here d p =
+            ap (λ (x : ℕ). getD (set targets e (getD places j 0)) x 0) p ∙ getD-set-same targets e _ 0 room
+            ∙ ap₂ (λ (x : List ℕ) (y : ℕ). getD x y 0) (lists .offsets) (sym (found .1) ∙ ap (place l) (lists .names))
+            ∙ sym (offset-place code l (has-in l (gather labelOf code) there)) ∙ ap (labelOffset code) (sym is ∙ ap (slotAt code) (sym p))
+
+    pub slots-missing : has l (gather labelOf code) ≡ false → firstBad (2 * n) 0 (λ d. named (gather labelOf code) (slotAt code d)) ≡ some e
+    slots-missing q = s .first ∙ bad-stop (2 * n) e _ inside (named-is ∙ q)
+
+-- the slot of the instruction that is read
+pub slot-is : {s : List ℕ} {n : ℕ} → Shaped s n → (e : ℕ) → e < 2 * n → {r : Bytecode} {l : ℕ} → r ≡ instructionAt s (e / 2) → l ≡ getD (branchDests r) (e % 2) noLabel → slotAt (codeOf s) e ≡ l
+unfolding slotAt
+slot-is h e k p q = ap (λ (x : Bytecode). getD (branchDests x) (e % 2) noLabel) (code-at h (e / 2) (omega arith) ∙ sym p) ∙ sym q
+
+pub listed-length : {code : List Bytecode} {labels places : List ℕ} → LabelLists code labels places → length places ≡ length labels
+listed-length {code} h = ap length (h .offsets) ∙ places-length code ∙ sym (ap length (h .names))
+
+-- a label number of a sheet's bytes is below noLabel
+pub bytes-below : (s : List ℕ) → ((i : ℕ) → getD s i 0 < 256) → (k : ℕ) → LabelsBelow (instructionAt s k)
+unfolding instructionAt decode
+bytes-below s small k = record { one = omega (arith, byte 4 (omega arith), byte 5 (omega arith)); two = omega (arith, byte 6 (omega arith), byte 7 (omega arith)) }
+  where
+    byte : (i : ℕ) → i < recordBytes → getD (take recordBytes (drop (recordStart k) s)) i 0 < 256
+    byte i h = let e = getD-take recordBytes (drop (recordStart k) s) i 0 h ∙ getD-drop (recordStart k) s i 0 in omega (arith, small (recordStart k + i))
+
+pub code-below : {s : List ℕ} {n : ℕ} → Shaped s n → ((i : ℕ) → getD s i 0 < 256) → (k : ℕ) → k < n → LabelsBelow (at (codeOf s) k)
+code-below {s} h small k l = rw (code-at h k l) (bytes-below s small k)
+
+-- ---- the answer
+
+module _ (code : List Bytecode) (n : ℕ) (below : (k : ℕ) → k < n → LabelsBelow (at code k)) where
+  names-first : firstBad n 0 (λ k. namesOk (gather labelOf code) (at code k)) ≡ halved (firstBad (2 * n) 0 (λ d. named (gather labelOf code) (slotAt code d)))
+  unfolding namesOk
+  names-first = slots-first code (gather labelOf code) n below
+
+  pub named-missing : {targets : List ℕ} {e : ℕ} → firstBad (2 * n) 0 (λ d. named (gather labelOf code) (slotAt code d)) ≡ some e → Named code n (At (e / 2)) targets
+  named-missing q = record { first = sym (ap foundOf (names-first ∙ ap halved q)); resolved = λ z. absurd (let y : _≡_ {A = ℕ} 0 1 = cc in omega arith) }
+
+  pub named-all : {targets₀ targets : List ℕ} {e : ℕ} → Slots code n targets₀ targets e → length code ≡ n → 2 * n ≤ e → Named code n Nothing targets
+  named-all {e = e} s size end = record {
+    first = sym (ap foundOf (names-first ∙ ap halved (s .first ∙ bad-end (2 * n) e _ end)));
+    resolved = λ z. record { each = λ d h b. s .each d (omega arith) b };
+  }

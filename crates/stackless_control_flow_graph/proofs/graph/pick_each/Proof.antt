@@ -1,0 +1,88 @@
+-- `graph::pick_each` meets its contract: one place a turn. Assumes nothing.
+use borrow.Author.Needs.{needs}
+use native.Mathlib.Omega.{arith}
+use mathlib.Core.Path.{_≡_, refl, sym, ap, _∙_}
+use mathlib.Core.List.{List}
+use Prim.Native.Nat.{ℕ, _+_, _-_, _≤_, _<_}
+use lib.ListN.{getD, length, set}
+use lib.Seq.{getD-set-same, getD-set-other}
+use Rattle.base.specs.ListLaws.{by-eq}
+use Rattle.stackless_control_flow_graph.proofs.graph.pick_each.Statement.{statement}
+use Rattle.stackless_control_flow_graph.proofs.graph.pick_each.Tie as tie
+
+-- one place more
+picked : (from at to : List ℕ) (i k : ℕ) → i < length to → k ≡ getD at i 0 → ((j : ℕ) → j < i → getD to j 0 ≡ getD from (getD at j 0) 0)
+    → (j : ℕ) → j < i + 1 → getD (set to i (getD from k 0)) j 0 ≡ getD from (getD at j 0) 0
+picked from at to i k l e h j b =
+    by-eq j i
+    (λ q. ap (λ (x : ℕ). getD (set to i (getD from k 0)) x 0) q ∙ getD-set-same to i (getD from k 0) 0 l ∙ ap (λ (x : ℕ). getD from x 0) (e ∙ ap (λ (x : ℕ). getD at x 0) (sym q)))
+    (λ g. getD-set-other to i j (getD from k 0) 0 g ∙ h j (omega arith))
+
+abbrev Inv-loop : tie.InvT-loop
+Inv-loop from at n to₀ i₀ to i = (i ≤ n) × (length to ≡ length to₀) × ((j : ℕ) → j < i → getD to j 0 ≡ getD from (getD at j 0) 0)
+
+abbrev μ-loop : tie.MeasureT-loop
+μ-loop from at n to₀ i₀ to i = n - i
+
+loop-holds : tie.Need-loop-holds Inv-loop μ-loop
+loop-holds c = (search needs, refl, λ j h. absurd (omega arith))
+
+mul-u16-to-usize : tie.Need-mul-u16-to-usize Inv-loop μ-loop
+mul-u16-to-usize c = search needs
+
+shared-slice-read-u16-to-usize : tie.Need-shared-slice-read-u16-to-usize Inv-loop μ-loop
+shared-slice-read-u16-to-usize c = search needs
+
+u16-to-usize-requires : tie.Need-u16-to-usize-requires Inv-loop μ-loop
+u16-to-usize-requires c κs = search needs
+
+mul-to : tie.Need-mul-to Inv-loop μ-loop
+mul-to c = omega (arith, c .before .before .before .before .before .before .before .pre .2 (c .before .before .before .loop .i) (search needs), c .u16-to-usize .ensures .0)
+
+shared-slice-read-to : tie.Need-shared-slice-read-to Inv-loop μ-loop
+shared-slice-read-to c = omega (arith, c .before .before .before .before .before .before .before .before .pre .2 (c .before .before .before .before .loop .i) (search needs), c .before .u16-to-usize .ensures .0)
+
+mul-to-2 : tie.Need-mul-to-2 Inv-loop μ-loop
+mul-to-2 c = search needs
+
+slice-write-to : tie.Need-slice-write-to Inv-loop μ-loop
+slice-write-to c = search needs
+
+add-i : tie.Need-add-i Inv-loop μ-loop
+add-i c = search needs
+
+loop-less : tie.Need-loop-less Inv-loop μ-loop
+loop-less c = search needs
+
+loop-again : tie.Need-loop-again Inv-loop μ-loop
+loop-again c = (
+  search needs,
+  search needs,
+  picked (c .before .before .before .before .before .before .before .before .args .from .now) (c .before .before .before .before .before .before .before .before .args .at .now) (c .before .before .before .before .loop .to) (c .before .before .before .before .loop .i) _ (search needs) (c .before .u16-to-usize .ensures .0) (c .before .before .before .before .loop .inv .2),
+)
+
+same-length : tie.Need-same-length Inv-loop μ-loop
+same-length c = search needs
+
+returns : tie.Need-returns Inv-loop μ-loop
+returns c = λ i h. c .before .loop .inv .2 i (omega arith)
+
+pub pick-each-spec : {M : Type 1} → statement M
+pick-each-spec =
+    tie.close
+    (tie.spec
+    Inv-loop
+    μ-loop
+    loop-holds
+    mul-u16-to-usize
+    shared-slice-read-u16-to-usize
+    u16-to-usize-requires
+    mul-to
+    shared-slice-read-to
+    mul-to-2
+    slice-write-to
+    add-i
+    loop-less
+    loop-again
+    same-length
+    returns)

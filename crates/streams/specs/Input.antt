@@ -1,0 +1,9 @@
+-- How much was read. Assumes nothing.
+use Prim.Native.Nat.{ℕ}
+use Rattle.streams.specs.declared.Input as declared
+use Rattle.streams.specs.declared.Input.the-variants.{Bytes, Failed}
+
+-- nothing, where a read failed
+abbrev pub bytesOf : declared.Input → ℕ
+bytesOf (Bytes n) = n
+bytesOf Failed = 0

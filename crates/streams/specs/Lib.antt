@@ -1,0 +1,2 @@
+-- What the public contracts and theorems say.
+pub mod Input
