@@ -1,0 +1,99 @@
+//! Every edge of document 01 that a sheet can show.
+use harness::{Bytes, random};
+use sorzibelu::{sheet::*, text};
+use std::fs;
+
+pub fn assembled(t: &str) -> Sheet {
+    text::assemble(t).unwrap()
+}
+
+pub fn nops(n: usize, last: &str) -> Sheet {
+    assembled(&format!("locals 2 user 0 parameters 0 references t1\n{}{last}\n", "nop\n".repeat(n - 1)))
+}
+
+/// Every edge of document 01 that a sheet can show.
+pub fn edges() -> Vec<Vec<u8>> {
+    let worked = ["m1", "m2", "m3", "m4", "m5", "m6"].map(|m| fs::read(format!("{}/../../sheets/{m}.sheet", env!("CARGO_MANIFEST_DIR"))).expect("sheets/"));
+    let m6 = Sheet::of_bytes(&worked[5]);
+    let mut all: Vec<Vec<u8>> = worked.to_vec();
+    // 1
+    for len in [0, 1, 511, 512, 1023, 1025, 1536, 35_840, 35_841, 36_352] {
+        all.push(vec![0; len]);
+    }
+    // lengths, n 1,024 and 1,025, 64 and 65 locals
+    for n in [1, 2, 14, 15, 16, 29, 30, 31, 1_010, 1_023, 1_024] {
+        all.push(nops(n, "ret t0").bytes());
+        all.push(nops(n, "nop").bytes());
+    }
+    for n in [0u16, 1_025, 1_010, 65_535] {
+        let mut s = nops(1_024, "ret").bytes();
+        s[4..6].copy_from_slice(&n.to_le_bytes());
+        seal(&mut s);
+        all.push(s);
+    }
+    for locals in [0, 63, 64, 65] {
+        all.push(Sheet { locals, code: vec![Instruction { srcs: vec![locals.saturating_sub(1) as u8], ..Instruction::new(RET) }], ..Default::default() }.bytes());
+        all.push(Sheet { locals, user_locals: 64, parameters: 64, references: u64::MAX, code: vec![Instruction::new(RET)] }.bytes());
+    }
+    // 2 to 4 in every byte of the two blocks of M2, sealed again or not
+    for at in 0..1024 {
+        let interesting = at < 32 || at == 511 || (512..512 + 32).contains(&at) || (544..544 + 5 * 32).contains(&at) || at % 32 == 0 || at == 1023;
+        if interesting {
+            for sealed in [false, true] {
+                let mut s = worked[1].clone();
+                s[at] = s[at].wrapping_add(1);
+                if sealed {
+                    seal(&mut s);
+                }
+                all.push(s);
+            }
+        }
+    }
+    // late places
+    let late = [(512 * 69 + 2, 1), (512 * 35, 1), (512 * 69 + 4, 1), (512 * 69 + 31, 9), (record_start(1_034) + 31, 1), (record_start(1_024), 255), (record_start(1_023) + 1, 1), (record_start(1_019) + 1, 1)];
+    for (at, value) in late {
+        for (sealed, early) in [(false, false), (true, false), (true, true)] {
+            let mut s = nops(1_024, "ret").bytes();
+            s[at] = value;
+            if sealed {
+                seal(&mut s);
+            }
+            if early {
+                s[record_start(0) + 28] = 1; // a Nop's payload
+                seal(&mut s);
+            }
+            all.push(s);
+        }
+    }
+    for last in ["ret t2", "jump L1", "label L1\nlabel L1\nret", "label L1\nbranch L1 L7 on t0"] {
+        all.push(nops(1_025 - last.lines().count(), last).bytes());
+    }
+    // order of the checks, and their places
+    let head = "locals 2 user 2 parameters 0 references t1\n";
+    for t in [
+        "ret t2", "nop\nret t1 t9", "t0 <- call Not t1 abort L1 into t2\nlabel L1\nret", "label L1\nnop\nlabel L1\nret", "jump L3\nlabel L1\nlabel L1\nret",
+        "branch L1 L2 on t0\nlabel L1\nret", "branch L2 L1 on t0\nlabel L1\nret", "jump L0\nlabel L65535\nret", "call Not abort L9 into t0\nret", "nop\nlabel L1",
+        "call Stop", "label L1\ncall Stop abort L1 into t0", "ret\nt0 <- call Not", "jump L2\nlabel L1\nbranch L1 L2 on t0\nlabel L2\nret", "nop\nlabel L1\nret\njump L1",
+        "branch L1 L1 on t0\nlabel L1\nret", "t1 <- call Not t0 abort L1 into t0\nret t1\nlabel L1\nret", "t0 <- call Not abort L1 into t0\nlabel L1\nret t0",
+        "t1 <- call Not t0\nt0 <- copy t1\nret", "t1 <- call Not t0\nt0 <- load Bool\nt0 <- copy t1\nret t0", "t1 t1 <- call Not t0\nt0 <- copy t1\nret t0",
+        "t0 <- call Stop\nt1 <- copy t0\nret t1", "label L65535\nbranch L65535 L65535 on t0", "t0 <- copy t0\nret t0", "label L1\njump L1", "label L65535\nnop @65535\nret @65535",
+        "label L1\nbranch L1 L2 on t1\nlabel L2\nret", "label L1\nbranch L2 L1 on t1\nlabel L2\nret", "ret\nlabel L1\nbranch L1 L2 on t1\nlabel L2\nret",
+    ] {
+        all.push(assembled(&format!("{head}{t}\n")).bytes());
+    }
+    all.push(random::fullest().bytes());
+    // 10 and 11 on both sides
+    for (label, attr) in [(65_534, 5), (65_535, 5), (2, 65_532), (2, 65_533), (65_534, 65_532), (65_535, 65_533)] {
+        let mut s = m6.clone();
+        s.code[0].two = label;
+        s.code[4].one = label;
+        s.code[5].attr = attr;
+        all.push(s.bytes());
+        for n in [1_015, 1_016] {
+            let mut t = s.clone();
+            t.code.splice(0..0, vec![Instruction::new(NOP); n]);
+            all.push(t.bytes());
+        }
+    }
+    all
+}

@@ -1,0 +1,155 @@
+//! The file of stored answers: a case, how it is packed and unpacked, and its replay with the proved calls.
+use harness::oracle::*;
+use sorzibelu::{Graph, Refusal, check, conditional, dying, flow, graph::Owned, in_use, live, rewrite};
+use std::collections::HashMap;
+
+pub const CHECK: u8 = 7;
+pub const WRONG: u8 = 128;
+pub const FILLING: u8 = 0xA5;
+pub const HEAD: usize = 16;
+pub const ROW: usize = 40;
+/// More than any call needs, and the most that a case lends.
+pub const MOST: usize = 36_864;
+
+/// A question and its stored answer.
+#[derive(Clone, PartialEq, Eq)]
+pub struct Case {
+    pub op: u8,
+    pub lent: usize,
+    pub result: Result<u32, (u16, u16)>,
+    pub input: Vec<u8>,
+    pub second: Vec<u8>,
+    pub written: Vec<u8>,
+}
+
+fn packed_result(r: Result<u32, (u16, u16)>) -> u64 {
+    match r {
+        Ok(value) => value as u64,
+        Err((number, place)) => (number as u64) << 32 | place as u64,
+    }
+}
+
+/// A graph as a case holds it.
+pub fn given(g: Graph) -> Vec<u8> {
+    let mut b = g.nodes.to_le_bytes().to_vec();
+    b.extend(g.live.to_le_bytes());
+    b.extend(g.triples.iter().flat_map(|x| x.to_le_bytes()));
+    b
+}
+
+pub fn of_given(b: &[u8]) -> Owned {
+    Owned {
+        nodes: u32::from_le_bytes(b[..4].try_into().unwrap()),
+        live: u64::from_le_bytes(b[4..12].try_into().unwrap()),
+        triples: b[12..].chunks(4).map(|x| u32::from_le_bytes(x.try_into().unwrap())).collect(),
+    }
+}
+
+pub fn pack(b: &[u8]) -> Vec<u8> {
+    let mut out = vec![];
+    let mut i = 0;
+    while i < b.len() {
+        if b[i] != 0 {
+            out.push(b[i]);
+            i += 1;
+            continue;
+        }
+        let run = b[i..].iter().take(255).take_while(|x| **x == 0).count();
+        out.extend([0, run as u8]);
+        i += run;
+    }
+    out
+}
+
+pub fn unpack(b: &[u8]) -> Vec<u8> {
+    let mut out = vec![];
+    let mut b = b.iter();
+    while let Some(x) = b.next() {
+        match x {
+            0 => out.resize(out.len() + *b.next().expect("a count") as usize, 0),
+            x => out.push(*x),
+        }
+    }
+    out
+}
+
+pub fn write_file(cases: &[Case]) -> Vec<u8> {
+    let mut strings: Vec<u8> = vec![];
+    let mut known: HashMap<Vec<u8>, [u32; 2]> = HashMap::from([(vec![], [0, 0])]);
+    let start = HEAD + ROW * cases.len();
+    let mut rows = vec![];
+    for c in cases {
+        let mut place = |b: &[u8]| {
+            let packed = pack(b);
+            *known.entry(packed.clone()).or_insert_with(|| {
+                let from = start + strings.len();
+                strings.extend(&packed);
+                [from as u32, packed.len() as u32]
+            })
+        };
+        let places = [place(&c.input), place(&c.second), place(&c.written)].concat();
+        rows.extend((c.op as u32).to_le_bytes());
+        rows.extend((c.lent as u32).to_le_bytes());
+        rows.extend(packed_result(c.result).to_le_bytes());
+        rows.extend(places.iter().flat_map(|x| x.to_le_bytes()));
+    }
+    let mut file = b"replay 1".to_vec();
+    file.extend((cases.len() as u32).to_le_bytes());
+    file.extend(((start + strings.len()) as u32).to_le_bytes());
+    file.extend(rows);
+    file.extend(strings);
+    file
+}
+
+/// Whether the proved call of a case gives the stored answer.
+pub fn agrees(op: u8, lent: usize, result: u64, input: &[u8], second: &[u8], written: &[u8]) -> bool {
+    let packed = |r: Result<u32, Refusal>| packed_result(r.map_err(|r| (r.number(), r.place())));
+    let mut bytes = vec![FILLING; if op == FLOW { 0 } else { MOST }];
+    let mut numbers = vec![u16::from_le_bytes([FILLING; 2]); if op == FLOW { 8_192 } else { 0 }];
+    let answer = match op {
+        FLOW => packed(flow(input, &mut numbers[..lent])),
+        LIVE => packed(live(input, &mut bytes[..lent])),
+        REWRITE => packed(rewrite(input, &mut bytes[..lent])),
+        IN_USE | CONDITIONAL => {
+            let node = u32::from_le_bytes(second.try_into().unwrap());
+            let g = of_given(input);
+            packed(if op == IN_USE { in_use(g.graph(), node) } else { conditional(g.graph(), node) }.map(u32::from))
+        }
+        DYING => packed(dying(of_given(input).graph(), of_given(second).graph(), &mut bytes[..lent])),
+        _ => packed(check(input).map(|()| 0)),
+    };
+    bytes.extend(numbers.iter().flat_map(|x| x.to_le_bytes()));
+    answer == result && written.len() <= bytes.len() && bytes[..written.len()] == *written && bytes[written.len()..].iter().all(|x| *x == FILLING)
+}
+
+/// Replays a file with the proved calls and prints what crates/replay prints; how many cases are not as they must be.
+pub fn replay(file: &[u8]) -> usize {
+    let u32_at = |at: usize| u32::from_le_bytes(file[at..at + 4].try_into().unwrap()) as usize;
+    assert!(&file[..8] == b"replay 1" && u32_at(12) == file.len());
+    let (mut counts, mut bad, mut wrong, mut found) = ([0; 8], 0, 0, 0);
+    for k in 0..u32_at(8) {
+        let row = HEAD + ROW * k;
+        let string = |at: usize| unpack(&file[u32_at(row + at)..u32_at(row + at) + u32_at(row + at + 4)]);
+        let op = file[row];
+        let result = u64::from_le_bytes(file[row + 8..row + 16].try_into().unwrap());
+        let same = agrees(op % WRONG, u32_at(row + 4), result, &string(16), &string(24), &string(32));
+        if op < WRONG {
+            counts[op as usize] += 1;
+            if !same {
+                println!("difference in case {k}");
+                bad += 1;
+            }
+        } else {
+            wrong += 1;
+            found += usize::from(!same);
+            if same {
+                println!("not found in case {k}");
+            }
+        }
+    }
+    for (op, name) in [(1, "flow"), (2, "live"), (3, "rewrite"), (4, "in use"), (5, "conditional"), (6, "dying"), (7, "check")] {
+        println!("{name} {} {}", counts[op], if (4..7).contains(&op) { "graphs" } else { "sheets" });
+    }
+    println!("{} cases, {bad} differences\n{wrong} made wrong, {found} found", counts.iter().sum::<usize>());
+    bad + wrong - found
+}

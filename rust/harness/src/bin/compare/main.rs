@@ -1,0 +1,159 @@
+//! `compare ORACLE [COUNT [SEED ..]]`: every call beside the original Rust behind oracle/, and beside the plain reading of document 01
+//! (rust/harness/src/plain.rs) where the original says nothing. COUNT is how many random sheets for each SEED (2,000); a SEED is a number, or `fresh`
+//! for one from the clock; without any they are 1 and fresh.
+//!
+//! a: every sheet of up to five instructions over small alphabets, up to six where COUNT is 20,000 or more. b: random sheets, sheets moved
+//! to the edges of 10 and 11, one that keeps the work list full. c: damaged copies. d: graphs without and with cycles, broken ones.
+//! e: every call with lent output exact, short, empty and long, between guards. The smallest sheet or graph with a difference is made
+//! smaller and printed with both answers; the status is then 1.
+mod graphs;
+mod judge;
+mod sheets;
+mod small;
+
+use harness::{Bytes, graphs as random_graphs, oracle::*, plain, random, random::Rng};
+use judge::{Part, Run};
+use small::{MIDDLE, NARROW, WIDE, every};
+use sorzibelu::graph::Owned;
+use std::{
+    env,
+    process::{Child, ExitCode},
+    time::{Instant, SystemTime},
+};
+
+fn met(part: &Part) -> String {
+    part.met.iter().map(|(number, times)| format!(" {number}: {times}")).collect::<Vec<_>>().join(",")
+}
+
+/// a, once: it has no seed. `more` instructions than in a short run.
+fn small_sheets(run: &mut Run, more: usize) {
+    let mut a = Part::default();
+    let start = Instant::now();
+    for (alphabet, lengths) in [(WIDE, 1..=3 + more), (MIDDLE, 4..=4 + more), (NARROW, 5..=5 + more)] {
+        for n in lengths {
+            every(alphabet, n, |sheets| run.sheets(&mut a, sheets));
+        }
+    }
+    println!(
+        "a  every small sheet: {} sheets, {} accepted, {} questions to the original; refused{}; {} differences ({} s)",
+        a.sheets,
+        a.accepted,
+        a.questions,
+        met(&a),
+        a.differences,
+        start.elapsed().as_secs()
+    );
+}
+
+/// b, c and d of one seed; whether every refusal was met.
+fn random_ones(run: &mut Run, count: usize, seed: u64) -> bool {
+    let mut rng = Rng::new(seed);
+    println!("seed {seed}, {count} random sheets");
+    let start = Instant::now();
+
+    let (mut b, mut c) = (Part::default(), Part::default());
+    run.sheets(&mut b, &[random::fullest().bytes()]);
+    let mut left = count;
+    while left > 0 {
+        let batch = left.min(50);
+        left -= batch;
+        let (mut sheets, mut damaged) = (vec![], vec![]);
+        for _ in 0..batch {
+            let shape = random::shape(&mut rng);
+            let s = if rng.chance(3) { random::lossy(&mut rng) } else { random::sheet(&mut rng, shape) };
+            damaged.extend((0..10).map(|_| random::damage(&mut rng, &s.bytes())).filter(|t| plain::check(t).is_err()));
+            sheets.extend(random::edge(&mut rng, &s).map(|t| t.bytes()));
+            sheets.push(s.bytes());
+        }
+        run.sheets(&mut b, &sheets);
+        run.sheets(&mut c, &damaged);
+    }
+    println!("b  random sheets: {} sheets, {} questions to the original; rewriting refused{}; {} differences", b.sheets, b.questions, met(&b), b.differences);
+    println!("c  damaged sheets: {} sheets, refused{}; {} differences ({} s)", c.sheets, met(&c), c.differences, start.elapsed().as_secs());
+
+    // all graphs of three nodes and single edges, cycles and self-loops among them, each with one next
+    let start = Instant::now();
+    let mut pairs = vec![];
+    for edges in 0..512u32 {
+        for live in 0..8 {
+            let triples = (0..9).filter(|e| edges >> e & 1 == 1).flat_map(|e| [e / 3, e % 3, 0]).collect();
+            let next = random_graphs::random(&mut rng, 3, live % 2 == 0);
+            pairs.push((Owned { nodes: 3, live, triples }, next));
+        }
+    }
+    for _ in 0..count / 10 {
+        pairs.push(random_graphs::pair(&mut rng, false));
+        pairs.push(random_graphs::pair(&mut rng, true));
+        for _ in 0..5 {
+            let cycles = rng.chance(2);
+            let (mut g, mut next) = random_graphs::pair(&mut rng, cycles);
+            for _ in 0..1 + rng.below(2) {
+                let which = if rng.chance(2) { &mut g } else { &mut next };
+                random_graphs::broken(&mut rng, which);
+            }
+            pairs.push((g, next));
+        }
+    }
+    let (mut d, unfinished) = (Part::default(), run.unfinished);
+    for some in pairs.chunks(200) {
+        run.graphs(&mut d, some);
+    }
+    println!(
+        "d  graphs: {} pairs, {} questions to the original ({} it does not finish); refused{}; {} differences ({} s)",
+        d.sheets,
+        d.questions,
+        run.unfinished - unfinished,
+        met(&d),
+        d.differences,
+        start.elapsed().as_secs()
+    );
+    let mut fine = true;
+    for (part, name, numbers) in [(&b, "b", 10..12), (&c, "c", 1..9), (&d, "d", 12..15), (&d, "d", 9..10)] {
+        for number in numbers.filter(|number| !part.met.contains_key(number)) {
+            println!("refusal {number} was not met in {name}: a larger COUNT is needed");
+            fine = false;
+        }
+    }
+    fine
+}
+
+fn compare(oracle: Child, count: usize, seeds: &[u64]) -> bool {
+    let mut run = Run { oracle, turn: 0, rooms: [0; 4], unfinished: 0, smallest_sheet: None, smallest_graphs: None };
+    small_sheets(&mut run, usize::from(count >= 20_000));
+    let mut fine = true;
+    for seed in seeds {
+        fine &= random_ones(&mut run, count, *seed);
+    }
+    let [exact, short, empty, long] = run.rooms;
+    println!("e  lent output between guards: exact {exact}, one short {short}, empty {empty}, long {long} times");
+    if let Some(s) = run.smallest_sheet.take() {
+        run.print_sheet(&s);
+        fine = false;
+    }
+    if let Some(found) = run.smallest_graphs.take() {
+        run.print_graphs(found);
+        fine = false;
+    }
+    fine
+}
+
+fn main() -> ExitCode {
+    let args: Vec<String> = env::args().skip(1).collect();
+    let fresh = SystemTime::now().duration_since(SystemTime::UNIX_EPOCH).map_or(0, |d| d.as_nanos() as u64 % 1_000_000_000);
+    let count = args.get(1).map_or(Ok(2_000), |x| x.parse());
+    let seeds: Result<Vec<u64>, _> = args.iter().skip(2).map(|x| if x == "fresh" { Ok(fresh) } else { x.parse() }).collect();
+    let (Some(path), Ok(count), Ok(mut seeds)) = (args.first(), count, seeds) else {
+        eprintln!("usage: compare ORACLE [COUNT [SEED ..]]; COUNT is a number, a SEED one or the word fresh");
+        return ExitCode::from(2);
+    };
+    if seeds.is_empty() {
+        seeds = vec![1, fresh];
+    }
+    match start(path) {
+        Ok(oracle) => ExitCode::from(u8::from(!compare(oracle, count, &seeds))),
+        Err(e) => {
+            eprintln!("{path}: {e}");
+            ExitCode::from(2)
+        }
+    }
+}

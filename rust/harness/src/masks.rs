@@ -1,0 +1,90 @@
+//! A small Rust program of masks with one work list, written to time the proved calls against: the same sheet bytes, checks, output and count, and a list as long
+//! that is cleared in each call. It allocates nothing: fixed arrays, every record decoded once. Not proved; held to the proved calls on random sheets below.
+mod checks;
+mod flow;
+mod live;
+mod rewrite;
+
+pub use checks::check;
+pub use flow::flow;
+pub use live::{live, live_with_table};
+pub use rewrite::rewrite;
+use sorzibelu::sheet::{record_start, ABORT, BRANCH, CALL, JUMP, RECORD, RET};
+
+const MOST: usize = 1024;
+const STOP: u8 = 18;
+const DESTROY: u8 = 13;
+
+/// As many keys as can ever be taken: 1 + (1,024 + 1) * (64 + 1).
+pub const LIST: usize = 66_626;
+
+type Refused = (u16, u16);
+
+/// Where the two labels of each instruction stand.
+pub type Targets = [[u16; 2]; MOST];
+
+fn u16_at(s: &[u8], at: usize) -> u16 {
+    u16::from_le_bytes([s[at], s[at + 1]])
+}
+
+fn u64_at(s: &[u8], at: usize) -> u64 {
+    u64::from_le_bytes(s[at..at + 8].try_into().unwrap())
+}
+
+fn record(s: &[u8], k: usize) -> &[u8; RECORD] {
+    let at = record_start(k);
+    s[at..at + RECORD].try_into().unwrap()
+}
+
+fn names(r: &[u8; RECORD]) -> usize {
+    match r[0] {
+        BRANCH => 2,
+        JUMP => 1,
+        CALL => r[10] as usize,
+        _ => 0,
+    }
+}
+
+fn exits(r: &[u8; RECORD]) -> bool {
+    matches!(r[0], RET | ABORT) || r[0] == CALL && r[1] == STOP
+}
+
+fn falls(r: &[u8; RECORD]) -> bool {
+    match r[0] {
+        RET | ABORT | BRANCH | JUMP => false,
+        CALL => r[1] != STOP || r[10] == 1,
+        _ => true,
+    }
+}
+
+#[cfg(test)]
+mod tests {
+    use crate::{random, random::Rng, Bytes};
+    use sorzibelu::{check, flow, live, rewrite};
+
+    #[test]
+    fn answers_are_the_proved_ones() {
+        let mut rng = Rng::new(11);
+        for turn in 0..4000 {
+            let shape = random::shape(&mut rng);
+            let mut s = random::sheet(&mut rng, shape).bytes();
+            if turn % 4 == 3 {
+                s = random::damage(&mut rng, &s);
+            }
+            let mut targets = [[0; 2]; 1024];
+            assert_eq!(check(&s).map_err(|f| (f.number(), f.place())), super::check::<false>(&s, &mut targets).map(|_| ()));
+            let (mut a, mut b) = (vec![7; 6 * 1024], vec![7; 6 * 1024]);
+            assert_eq!(flow(&s, &mut a).map_err(|f| (f.number(), f.place())), super::flow(&s, &mut b));
+            assert_eq!(a, b);
+            let (mut a, mut b, mut c) = (vec![7; 16 * 1024], vec![7; 16 * 1024], vec![7; 16 * 1024]);
+            let proved = live(&s, &mut a).map_err(|f| (f.number(), f.place()));
+            assert_eq!(proved, super::live(&s, &mut b));
+            assert_eq!(proved, super::live_with_table(&s, &mut c));
+            assert_eq!(a, b);
+            assert_eq!(a, c);
+            let (mut a, mut b) = (vec![7; 35_840], vec![7; 35_840]);
+            assert_eq!(rewrite(&s, &mut a).map_err(|f| (f.number(), f.place())), super::rewrite(&s, &mut b));
+            assert_eq!(a, b);
+        }
+    }
+}

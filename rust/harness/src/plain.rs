@@ -1,0 +1,10 @@
+//! Document 01 read word for word into plain Rust: what the proved calls are compared with where the original Rust says nothing.
+mod check;
+mod graphs;
+mod live;
+mod rewrite;
+
+pub use check::check;
+pub use graphs::{check_graphs, conditional, dying, in_use};
+pub use live::{Blocks, blocks, execute, flow, live};
+pub use rewrite::{Rewriting, rewrite, rewriting};

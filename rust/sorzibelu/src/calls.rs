@@ -1,0 +1,168 @@
+//! The calls over lent slices: thin and safe over the C entry points, with no allocation.
+use crate::{ffi, Refusal};
+
+/// number * 2^32 + value, the number 0 where accepted.
+fn unpack(packed: u64) -> Result<u32, Refusal> {
+    match (packed >> 32) as u16 {
+        0 => Ok(packed as u32),
+        number => Err(Refusal::of(number, packed as u16)),
+    }
+}
+
+/// A call that takes a sheet and lends output.
+fn lent<T>(sheet: &[u8], out: &mut [T], call: unsafe extern "C" fn(*const u8, usize, *mut T, usize) -> u64) -> Result<u32, Refusal> {
+    // SAFETY: the call reads `sheet` and reads and writes `out`, within their lengths; they are apart, since one of them is borrowed alone.
+    unpack(unsafe { call(sheet.as_ptr(), sheet.len(), out.as_mut_ptr(), out.len()) })
+}
+
+/// Checks 1 to 8 of a sheet.
+///
+/// ```
+/// use sorzibelu::{check, Refusal};
+/// let m1 = sorzibelu::text::assemble("locals 1 user 1 parameters 1 references\nret t0\n")?;
+/// assert_eq!(check(&Vec::try_from(&m1)?), Ok(()));
+/// assert_eq!(check(&[]), Err(Refusal::Length));
+/// # Ok::<(), Box<dyn std::error::Error>>(())
+/// ```
+pub fn check(sheet: &[u8]) -> Result<(), Refusal> {
+    // SAFETY: the call reads `len` bytes from the pointer, and nothing else.
+    unpack(unsafe { ffi::sorzibelu_check(sheet.as_ptr(), sheet.len()) }).map(|_| ())
+}
+
+/// The flow table: how many blocks, and six numbers for each at the front of `table`: lower, upper, key, and three successor keys, 0 filling up.
+/// [`FLOW_NUMBERS`](crate::FLOW_NUMBERS) are always enough.
+///
+/// ```
+/// let m1 = sorzibelu::text::assemble("locals 1 user 1 parameters 1 references\nret t0\n")?;
+/// let mut table = [7; sorzibelu::FLOW_NUMBERS];
+/// assert_eq!(sorzibelu::flow(&Vec::try_from(&m1)?, &mut table), Ok(1));
+/// assert_eq!(table[..7], [0, 0, 2, 1, 0, 0, 7]);
+/// # Ok::<(), Box<dyn std::error::Error>>(())
+/// ```
+pub fn flow(sheet: &[u8], table: &mut [u16]) -> Result<u32, Refusal> {
+    lent(sheet, table, ffi::sorzibelu_flow)
+}
+
+/// The live sets: how many blocks were taken, and 8 bytes of before and 8 of after for each instruction at the front of `sets`.
+/// [`LIVE_BYTES`](crate::LIVE_BYTES) are always enough.
+///
+/// ```
+/// let m1 = sorzibelu::text::assemble("locals 1 user 1 parameters 1 references\nret t0\n")?;
+/// let mut sets = [0; sorzibelu::LIVE_BYTES];
+/// assert_eq!(sorzibelu::live(&Vec::try_from(&m1)?, &mut sets), Ok(3));
+/// assert_eq!(sets[..16], [1, 0, 0, 0, 0, 0, 0, 0, 0, 0, 0, 0, 0, 0, 0, 0]);
+/// # Ok::<(), Box<dyn std::error::Error>>(())
+/// ```
+pub fn live(sheet: &[u8], sets: &mut [u8]) -> Result<u32, Refusal> {
+    lent(sheet, sets, ffi::sorzibelu_live)
+}
+
+/// The rewritten sheet: how many bytes it has, and they at the front of `out`, which is lent [`MAX_SHEET_BYTES`](crate::MAX_SHEET_BYTES) or more.
+///
+/// ```
+/// use sorzibelu::{rewrite, Refusal, MAX_SHEET_BYTES};
+/// let m4 = sorzibelu::text::assemble("locals 2 user 2 parameters 0 references\nt1 <- copy t0\nret\n")?;
+/// let m4 = Vec::try_from(&m4)?;
+/// let mut out = [0; MAX_SHEET_BYTES];
+/// assert_eq!(rewrite(&m4, &mut out), Ok(1_024));
+/// assert_eq!(out[4], 1, "the Ret is left");
+/// assert_eq!(rewrite(&m4, &mut out[1..]), Err(Refusal::ShortOutput));
+/// # Ok::<(), Box<dyn std::error::Error>>(())
+/// ```
+pub fn rewrite(sheet: &[u8], out: &mut [u8]) -> Result<u32, Refusal> {
+    lent(sheet, out, ffi::sorzibelu_rewrite)
+}
+
+/// The page of any bytes: how long it is, and it at the front of `out`, which is lent [`PAGE_BYTES`](crate::PAGE_BYTES) or more. A refused
+/// sheet's page is the line `refused NUMBER PLACE`; only [`ShortOutput`](Refusal::ShortOutput) is an error. The call needs
+/// [`PAGE_STACK_BYTES`](crate::PAGE_STACK_BYTES) of stack.
+///
+/// ```
+/// let mut out = vec![0; sorzibelu::PAGE_BYTES];
+/// assert_eq!(sorzibelu::page(&[], &mut out), Ok(12));
+/// assert_eq!(out[..12], *b"refused 1 0\n");
+/// ```
+pub fn page(sheet: &[u8], out: &mut [u8]) -> Result<u32, Refusal> {
+    lent(sheet, out, ffi::sorzibelu_page)
+}
+
+/// What the program livelist prints for any bytes: how long it is, and it at the front of `out`, which is lent
+/// [`LIVELIST_BYTES`](crate::LIVELIST_BYTES) or more. A refused sheet's is the line `refused NUMBER PLACE`; only
+/// [`ShortOutput`](Refusal::ShortOutput) is an error.
+///
+/// ```
+/// let m1 = sorzibelu::text::assemble("locals 1 user 1 parameters 1 references\nret t0\n")?;
+/// let mut out = vec![0; sorzibelu::LIVELIST_BYTES];
+/// let length = sorzibelu::livelist(&Vec::try_from(&m1)?, &mut out)? as usize;
+/// assert_eq!(out[..length], *b"0 0000000000000001 0000000000000000\ntaken 3\n");
+/// # Ok::<(), Box<dyn std::error::Error>>(())
+/// ```
+pub fn livelist(sheet: &[u8], out: &mut [u8]) -> Result<u32, Refusal> {
+    lent(sheet, out, ffi::sorzibelu_livelist)
+}
+
+/// A borrow graph as it is handed over: ascending triples of parent, child and edge.
+#[derive(Clone, Copy, Debug)]
+pub struct Graph<'a> {
+    /// How many nodes, [`MAX_NODES`](crate::MAX_NODES) at most.
+    pub nodes: u32,
+    /// Bit i set where node i is live.
+    pub live: u64,
+    /// Three numbers a triple, [`MAX_TRIPLES`](crate::MAX_TRIPLES) at most.
+    pub triples: &'a [u32],
+}
+
+/// Whether a node or a descendant of it is live.
+///
+/// ```
+/// use sorzibelu::{in_use, Graph, Refusal};
+/// let graph = Graph { nodes: 3, live: 0b010, triples: &[0, 1, 0, 1, 2, 0] };
+/// assert_eq!(in_use(graph, 0), Ok(true));
+/// assert_eq!(in_use(graph, 2), Ok(false));
+/// assert_eq!(in_use(graph, 3), Err(Refusal::AskedNode));
+/// ```
+pub fn in_use(graph: Graph, node: u32) -> Result<bool, Refusal> {
+    // SAFETY: the call reads `triples`, within its length.
+    unpack(unsafe { ffi::sorzibelu_in_use(graph.nodes, graph.live, graph.triples.as_ptr(), graph.triples.len(), node) }).map(|x| x == 1)
+}
+
+/// Whether more than one triple leads to a node or to a descendant of it.
+///
+/// ```
+/// use sorzibelu::{conditional, Graph};
+/// let graph = Graph { nodes: 3, live: 0, triples: &[0, 1, 0, 0, 1, 1] };
+/// assert_eq!([0, 1, 2].map(|node| conditional(graph, node)), [Ok(true), Ok(true), Ok(false)]);
+/// ```
+pub fn conditional(graph: Graph, node: u32) -> Result<bool, Refusal> {
+    // SAFETY: the call reads `triples`, within its length.
+    unpack(unsafe { ffi::sorzibelu_conditional(graph.nodes, graph.live, graph.triples.as_ptr(), graph.triples.len(), node) }).map(|x| x == 1)
+}
+
+/// The nodes that die from this graph to the next: how many, and a byte for each at the front of `out`, which is lent a byte for each node of
+/// this graph or more.
+///
+/// ```
+/// use sorzibelu::{dying, Graph, MAX_NODES};
+/// let chain = [0, 1, 0, 1, 2, 0];
+/// let (this, next) = (Graph { nodes: 3, live: 0b100, triples: &chain }, Graph { nodes: 3, live: 0, triples: &chain });
+/// let mut out = [0; MAX_NODES];
+/// assert_eq!(dying(this, next, &mut out), Ok(3));
+/// assert_eq!(out[..3], [2, 1, 0]);
+/// ```
+pub fn dying(graph: Graph, next: Graph, out: &mut [u8]) -> Result<u32, Refusal> {
+    // SAFETY: the call reads both lists of triples and reads and writes `out`, within their lengths.
+    unpack(unsafe {
+        ffi::sorzibelu_dying(
+            graph.nodes,
+            graph.live,
+            graph.triples.as_ptr(),
+            graph.triples.len(),
+            next.nodes,
+            next.live,
+            next.triples.as_ptr(),
+            next.triples.len(),
+            out.as_mut_ptr(),
+            out.len(),
+        )
+    })
+}

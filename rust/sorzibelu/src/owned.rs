@@ -1,0 +1,139 @@
+//! The same answers as values: each makes what the call lends, and takes the answer out of it.
+use crate::{calls, Graph, Refusal, BYTES_PER_INSTRUCTION, FLOW_NUMBERS, LIVE_BYTES, MAX_NODES, MAX_SHEET_BYTES, NUMBERS_PER_BLOCK};
+
+/// One row of the flow table.
+#[derive(Clone, Copy, Debug, PartialEq, Eq, Hash)]
+pub struct Block {
+    /// The offset of its first instruction.
+    pub lower: u16,
+    /// The offset of its last instruction.
+    pub upper: u16,
+    /// Its key, from 2.
+    pub key: u16,
+    /// The keys that it leads to, 1 last at an exit, 0 filling up.
+    pub next: [u16; 3],
+}
+
+impl Block {
+    /// The keys that it leads to, without what fills up.
+    pub fn leads_to(&self) -> impl Iterator<Item = u16> + '_ {
+        self.next.iter().copied().filter(|key| *key != 0)
+    }
+}
+
+/// The flow table of a sheet: its blocks, by offset.
+///
+/// ```
+/// let m2 = sorzibelu::text::assemble("locals 2 user 2 parameters 2 references\nlabel L1\nbranch L1 L2 on t0\nlabel L2\nret t1\n")?;
+/// let blocks = sorzibelu::blocks(&Vec::try_from(&m2)?)?;
+/// assert_eq!(blocks.len(), 2);
+/// assert_eq!((blocks[0].lower, blocks[0].upper, blocks[0].key), (0, 1, 2));
+/// assert_eq!(blocks[0].leads_to().collect::<Vec<_>>(), [2, 3]);
+/// # Ok::<(), Box<dyn std::error::Error>>(())
+/// ```
+pub fn blocks(sheet: &[u8]) -> Result<Vec<Block>, Refusal> {
+    let mut table = vec![0; FLOW_NUMBERS];
+    let count = calls::flow(sheet, &mut table)? as usize;
+    let row = |r: &[u16]| Block { lower: r[0], upper: r[1], key: r[2], next: [r[3], r[4], r[5]] };
+    Ok(table.chunks_exact(NUMBERS_PER_BLOCK).take(count).map(row).collect())
+}
+
+/// The sets around one instruction, bit i for local i.
+#[derive(Clone, Copy, Debug, Default, PartialEq, Eq, Hash)]
+pub struct Sets {
+    /// What is live before it.
+    pub before: u64,
+    /// What is live behind it.
+    pub after: u64,
+}
+
+/// The live sets of a sheet.
+#[derive(Clone, Debug, Default, PartialEq, Eq)]
+pub struct LiveSets {
+    /// Of each instruction, by offset.
+    pub sets: Vec<Sets>,
+    /// How many blocks the work list gave out.
+    pub taken: u32,
+}
+
+/// The live sets of a sheet, and the count of blocks taken.
+///
+/// ```
+/// let m1 = sorzibelu::text::assemble("locals 1 user 1 parameters 1 references\nret t0\n")?;
+/// let live = sorzibelu::live_sets(&Vec::try_from(&m1)?)?;
+/// assert_eq!((live.sets[0].before, live.sets[0].after, live.taken), (1, 0, 3));
+/// # Ok::<(), Box<dyn std::error::Error>>(())
+/// ```
+pub fn live_sets(sheet: &[u8]) -> Result<LiveSets, Refusal> {
+    let mut out = vec![0; LIVE_BYTES];
+    let taken = calls::live(sheet, &mut out)?;
+    // an accepted sheet has its instruction count in bytes 4 and 5
+    let n = u16::from_le_bytes([sheet[4], sheet[5]]) as usize;
+    let word = |b: &[u8]| b.iter().rev().fold(0, |w, x| w << 8 | u64::from(*x));
+    let sets = out.chunks_exact(BYTES_PER_INSTRUCTION).take(n).map(|s| Sets { before: word(&s[..8]), after: word(&s[8..]) });
+    Ok(LiveSets { sets: sets.collect(), taken })
+}
+
+/// The bytes of the rewritten sheet.
+///
+/// ```
+/// use sorzibelu::{rewritten, sheet::Sheet, text};
+/// let m5 = text::assemble("locals 3 user 3 parameters 0 references\nt0 <- load Bool\nt1 <- call Not t0\nt2 <- copy t1\nret t2\n")?;
+/// let new = Sheet::try_from(&rewritten(&Vec::try_from(&m5)?)?[..])?;
+/// assert_eq!(text::instruction(&new.code[1]), "t2 <- call Not t0");
+/// # Ok::<(), Box<dyn std::error::Error>>(())
+/// ```
+pub fn rewritten(sheet: &[u8]) -> Result<Vec<u8>, Refusal> {
+    let mut out = vec![0; MAX_SHEET_BYTES];
+    let length = calls::rewrite(sheet, &mut out)?;
+    out.truncate(length as usize);
+    Ok(out)
+}
+
+/// A text that a call writes at the front of so many bytes, which are enough for every one.
+fn text(sheet: &[u8], room: usize, call: fn(&[u8], &mut [u8]) -> Result<u32, Refusal>) -> Result<String, Refusal> {
+    let mut out = vec![0; room];
+    let length = call(sheet, &mut out)?;
+    out.truncate(length as usize);
+    Ok(out.into_iter().map(char::from).collect())
+}
+
+/// The page of a sheet; see [`page`](crate::page) for the stack that it needs.
+///
+/// ```
+/// let m1 = sorzibelu::text::assemble("locals 1 user 1 parameters 1 references\nret t0\n")?;
+/// let page = sorzibelu::page_text(&Vec::try_from(&m1)?)?;
+/// assert!(page.starts_with("code\nlocals 1 user 1 parameters 1 references\n0: ret t0\n"));
+/// # Ok::<(), Box<dyn std::error::Error>>(())
+/// ```
+pub fn page_text(sheet: &[u8]) -> Result<String, Refusal> {
+    calls::check(sheet)?;
+    text(sheet, crate::PAGE_BYTES, calls::page)
+}
+
+/// The live sets of a sheet as the program livelist prints them.
+///
+/// ```
+/// let m1 = sorzibelu::text::assemble("locals 1 user 1 parameters 1 references\nret t0\n")?;
+/// assert_eq!(sorzibelu::livelist_text(&Vec::try_from(&m1)?)?, "0 0000000000000001 0000000000000000\ntaken 3\n");
+/// # Ok::<(), Box<dyn std::error::Error>>(())
+/// ```
+pub fn livelist_text(sheet: &[u8]) -> Result<String, Refusal> {
+    calls::check(sheet)?;
+    text(sheet, crate::LIVELIST_BYTES, calls::livelist)
+}
+
+/// The nodes that die from this graph to the next, in the order of the walk.
+///
+/// ```
+/// use sorzibelu::{dying_nodes, Graph};
+/// let chain = [0, 1, 0, 1, 2, 0];
+/// let (this, next) = (Graph { nodes: 3, live: 0b100, triples: &chain }, Graph { nodes: 3, live: 0, triples: &chain });
+/// assert_eq!(dying_nodes(this, next), Ok(vec![2, 1, 0]));
+/// ```
+pub fn dying_nodes(graph: Graph, next: Graph) -> Result<Vec<u8>, Refusal> {
+    let mut out = vec![0; MAX_NODES];
+    let count = calls::dying(graph, next, &mut out)?;
+    out.truncate(count as usize);
+    Ok(out)
+}

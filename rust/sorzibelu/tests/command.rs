@@ -1,0 +1,235 @@
+//! What the command answers: every sub-command on worked sheets and graphs, as text, as bytes and from standard input.
+mod common;
+use common::*;
+use std::fs;
+
+const COMMANDS: [&str; 11] = ["page", "live", "flow", "rewrite", "check", "assemble", "list", "mark", "in-use", "conditional", "dying"];
+
+#[test]
+fn text_or_bytes_whatever_the_name() {
+    let dir = folder("names");
+    let (text, bytes) = (fs::read(stored("m6.txt")).unwrap(), fs::read(stored("m6.sheet")).unwrap());
+    let swapped = [file(&dir, "m6.sheet", &text), file(&dir, "m6.txt", &bytes)];
+    let with_mark = file(&dir, "mark", [&[0xef, 0xbb, 0xbf], &text[..]].concat());
+    for command in ["page", "live", "flow", "rewrite", "check", "list"] {
+        let wanted = run(&[command, &stored("m6.txt")]);
+        assert_eq!(wanted.0, 0);
+        for other in [&stored("m6.sheet"), &swapped[0], &swapped[1], &with_mark] {
+            assert_eq!(run(&[command, other]), wanted);
+        }
+        assert_eq!(fed(&[command, "-"], &text), wanted);
+        assert_eq!(fed(&[command, "-"], &bytes), wanted);
+        assert_eq!(run(&[command, "--", &stored("m6.txt")]), wanted);
+    }
+}
+
+#[test]
+fn flow_rewrite_check() {
+    answered(&["flow", &stored("m6.txt")], "0 to 0: key 4, leads to 2 3\n1 to 3: key 2, leads to 1\n4 to 5: key 3, leads to 1\nblocks 3\n");
+    answered(&["check", &stored("m6.txt")], "accepted\n");
+    for m in 1..=6 {
+        let page = fs::read_to_string(stored(&format!("m{m}.page"))).unwrap();
+        let parts: Vec<&str> = page.split("\n\n").collect();
+        answered(&["flow", &stored(&format!("m{m}.sheet"))], &(parts[1].strip_prefix("flow\n").unwrap().to_string() + "\n"));
+        answered(&["rewrite", &stored(&format!("m{m}.sheet"))], parts[3].strip_prefix("rewritten\n").unwrap());
+    }
+}
+
+#[test]
+fn page_and_live() {
+    for m in 1..=6 {
+        let page = fs::read_to_string(stored(&format!("m{m}.page"))).unwrap();
+        answered(&["page", &stored(&format!("m{m}.sheet"))], &page);
+        answered(&["page", &stored(&format!("m{m}.txt"))], &page);
+    }
+    answered(
+        &["live", &stored("m2.txt")],
+        "0 0000000000000003 0000000000000003\n1 0000000000000003 0000000000000003\n2 0000000000000002 0000000000000002\n3 0000000000000002 0000000000000000\ntaken 7\n",
+    );
+    for command in ["page", "live"] {
+        refused(&[command, &stored("kind12.sheet")], "refused 4 0\noffset 0: its kind is 12, and the last kind is 11, Prop\n");
+    }
+}
+
+#[test]
+fn assemble_and_list() {
+    let dir = folder("assemble");
+    for m in ["m1", "m2", "m3", "m4", "m5", "m6"] {
+        let to = dir.join(m).display().to_string();
+        let bytes = fs::read(stored(&format!("{m}.sheet"))).unwrap();
+        answered(&["assemble", "-o", &to, &stored(&format!("{m}.txt"))], "");
+        assert_eq!(fs::read(&to).unwrap(), bytes);
+        assert_eq!(command(&["assemble", &stored(&format!("{m}.txt"))]).output().unwrap().stdout, bytes);
+        let (status, listed, _) = run(&["list", &to]);
+        assert_eq!((status, fed(&["assemble", "-", "-o", &to], listed.as_bytes()).0), (0, 0));
+        assert_eq!(fs::read(&to).unwrap(), bytes);
+    }
+    // a sheet that is refused has a text too
+    let to = dir.join("kind12").display().to_string();
+    refused(&["assemble", "-o", &to, &stored("kind12.txt")], "refused 4 0\nline 3, offset 0: its kind is 12, and the last kind is 11, Prop\n");
+    assert!(!fs::exists(&to).unwrap());
+    let (status, out, err) = run(&["assemble", &stored("kind12.txt")]);
+    assert_eq!((status, &out[..], &err[..11]), (1, "", "refused 4 0"));
+    answered(&["assemble", "--unchecked", &stored("kind12.txt"), "-o", &to], "");
+    assert_eq!(fs::read(&to).unwrap(), fs::read(stored("kind12.sheet")).unwrap());
+    refused(&["list", &to], "refused 4 0\noffset 0: its kind is 12, and the last kind is 11, Prop\n");
+    answered(&["list", "--unchecked", &to], "locals 1 user 1 parameters 1 references\nraw kind 12 sources 1 t0\n");
+}
+
+#[test]
+fn rewritten_bytes() {
+    let dir = folder("rewritten");
+    let to = dir.join("new").display().to_string();
+    answered(&["rewrite", "-o", &to, &stored("m5.txt")], "");
+    answered(&["list", &to], "locals 3 user 3 parameters 0 references\nt0 <- load Bool\nt2 <- call Not t0\nret t2\n");
+    let out = command(&["rewrite", "-o", "-", &stored("m5.txt")]).output().unwrap();
+    assert_eq!(out.stdout, fs::read(&to).unwrap());
+}
+
+#[test]
+fn graphs() {
+    answered(&["in-use", &stored("m7.txt"), "0"], "0: yes, 0 -> 1 -> 2, and 2 is live\n");
+    answered(&["conditional", &stored("m7.txt")], "0: no\n1: no\n2: no\n");
+    answered(&["dying", &stored("m7.txt")], "2 1 0\n");
+    answered(&["dying", &stored("m8.txt")], "none\n");
+    for m in ["m7", "m8"] {
+        answered(&["page", &stored(&format!("{m}.txt"))], &fs::read_to_string(stored(&format!("{m}.page"))).unwrap());
+    }
+    let dir = folder("graphs");
+    let this = file(&dir, "this", "nodes 3\nlive 2\ntriple 0 1 0\ntriple 1 2 0\n");
+    let next = file(&dir, "next", "nodes 3\nlive\ntriple 0 1 0\ntriple 1 2 0\n");
+    answered(&["dying", &this, &next], "2 1 0\n");
+    answered(&["check", &this], "accepted\n");
+    answered(&["check", &stored("m7.txt")], "accepted\n");
+    trouble(&["dying", &this], "one graph, where a pair should stand");
+    refused(&["in-use", &this, "3"], "refused 14 0\nnode 3 was asked about, and the graph has 3 nodes\n");
+    trouble(&["in-use", &this, "x"], "'x' is no node");
+    trouble(&["in-use", &stored("m1.txt")], "a sheet, where a graph should stand");
+    trouble(&["in-use", &stored("m1.sheet")], "bytes, where a text should stand");
+    trouble(&["flow", &this], "a graph, where a sheet should stand");
+    for (text, says) in [
+        ("nodes 65\n", "refused 12 0\nline 1, 65 nodes, and there are 64 at most\n"),
+        ("nodes 2\nlive 2\n", "refused 12 0\nline 2, node 2 is live, and there are 2 nodes\n"),
+        ("nodes 2\nlive\ntriple 2 0 0\n", "refused 13 0\nline 3, triple 0 (2,0,0): its parent 2 is not below the node count, 2\n"),
+        ("nodes 2\nlive\ntriple 0 2 0\n", "refused 13 0\nline 3, triple 0 (0,2,0): its child 2 is not below the node count, 2\n"),
+        ("nodes 2\nlive\ntriple 0 1 1\ntriple 0 1 1\n", "refused 13 1\nline 4, triple 1 (0,1,1): it is not above the triple before it (0,1,1)\n"),
+        ("nodes 2\nlive\ntriple 0 1 1\nrest 1\n", "refused 13 300\nline 4, the list of triples has 4 numbers, which is no multiple of three\n"),
+    ] {
+        let graph = file(&dir, "graph", text);
+        for command in ["in-use", "conditional", "page", "check"] {
+            refused(&[command, &graph], says);
+        }
+        let second = says.replace("12 0", "12 1").replace("13 0", "13 1000").replace("13 1\n", "13 1001\n").replace("13 300", "13 1300").replacen(", ", ", the next graph: ", 1);
+        refused(&["dying", &this, &graph], &second);
+    }
+}
+
+/// Sheets that break each check, and the words for it.
+#[test]
+fn refusals_in_words() {
+    let dir = folder("refusals");
+    let head = "locals 2 user 2 parameters 0 references t1\n";
+    for (text, says) in [
+        ("locals 65 user 0 parameters 0 references\nret\n", "3 0\nline 1, the heading: 65 locals, and there are 64 at most\n"),
+        ("locals 2 user 3 parameters 0 references\nret\n", "3 0\nline 1, the heading: 3 user locals of 2 locals\n"),
+        ("locals 2 user 1 parameters 2 references\nret\n", "3 0\nline 1, the heading: 2 parameters of 1 user locals\n"),
+        ("locals 2 user 1 parameters 0 references t2\nret\n", "3 0\nline 1, the heading: the reference mask has t2, and there are 2 locals\n"),
+        ("locals 0 user 0 parameters 0 references count 0\nret\n", "3 0\nline 1, the heading: the instruction count is 0 and should be 1 to 1,024\n"),
+        ("locals 0 user 0 parameters 0 references count 16\nret\n", "3 0\nline 1, the heading: 16 instructions take 3 blocks, and the sheet has 2\n"),
+        ("locals 0 user 0 parameters 0 references bytes 1000\nret\n", "1 0\nthe sheet has 1000 bytes, which is no multiple of 512\n"),
+        ("locals 0 user 0 parameters 0 references bytes 512\n", "1 0\nthe sheet has 512 bytes, and the shortest has 1,024\n"),
+        ("locals 0 user 0 parameters 0 references bytes 36352\nret\n", "1 0\nthe sheet has 36352 bytes, and the longest has 35,840\n"),
+        ("locals 0 user 0 parameters 0 references\nblock 1 number 3\nret\n", "2 1\nline 2, block 1: its number is 3 and should be 1\n"),
+        ("locals 0 user 0 parameters 0 references\nblock 1 check 9\nret\n", "2 1\nline 2, block 1: its check is 9 and should be 3, the sum of its other bytes\n"),
+        (&format!("{head}nop\nraw kind 12\nret\n"), "4 1\nline 3, offset 1: its kind is 12, and the last kind is 11, Prop\n"),
+        (&format!("{head}raw kind 1 sub 55\nret\n"), "4 0\nline 2, offset 0: its sub is 55 and should be 0 to 54 in a Call\n"),
+        (&format!("{head}raw kind 2 sub 1\nret\n"), "4 0\nline 2, offset 0: its sub is 1 and should be 0 in a Ret\n"),
+        (&format!("{head}raw kind 0 sources 1 t0\nret\n"), "4 0\nline 2, offset 0: its count of destinations is 0 and should be 1 in an Assign\n"),
+        (&format!("{head}raw kind 2 sources 9\nret\n"), "4 0\nline 2, offset 0: its count of sources is 9 and should be 0 to 8 in a Ret\n"),
+        (&format!("{head}raw kind 8 one L3\nret\n"), "4 0\nline 2, offset 0: its label one is 3 and should be 0 in a Nop\n"),
+        (&format!("{head}raw kind 5 one L3 two L4\nret\n"), "4 0\nline 2, offset 0: its label two is 4 and should be 0 in a Jump\n"),
+        (&format!("{head}raw kind 1 sub 28 flag 2\nret\n"), "4 0\nline 2, offset 0: its abort flag is 2 and should be 0 or 1 in a Call\n"),
+        (&format!("{head}raw kind 8 flag 1\nret\n"), "4 0\nline 2, offset 0: its abort flag is 1 and should be 0 in a Nop\n"),
+        (&format!("{head}raw kind 1 sub 28 one L3\nret\n"), "4 0\nline 2, offset 0: its label one, without an abort flag, is 3 and should be 0 in a Call\n"),
+        (&format!("{head}raw kind 8 into t1\nret\n"), "4 0\nline 2, offset 0: its abort local is 1 and should be 0 in a Nop\n"),
+        (&format!("{head}ret t2\n"), "5 0\nline 2, offset 0: the Ret's source is t2, and there are 2 locals\n"),
+        (&format!("{head}nop\nt9 <- load Bool\nret\n"), "5 1\nline 3, offset 1: the Load's destination is t9, and there are 2 locals\n"),
+        (&format!("{head}call Not abort L1 into t2\nlabel L1\nret\n"), "5 0\nline 2, offset 0: the Call's abort local is t2, and there are 2 locals\n"),
+        (&format!("{head}label L7\nnop\nlabel L7\nret\n"), "6 2\nline 4, offset 2: the Label repeats number 7, which the Label at offset 0 has\n"),
+        (&format!("{head}label L1\nbranch L1 L2 on t0\n"), "7 1\nline 3, offset 1: the Branch names label 2, which no Label has\n"),
+        (&format!("{head}jump L1\n"), "7 0\nline 2, offset 0: the Jump names label 1, which no Label has\n"),
+        (&format!("{head}call Not abort L1 into t0\nret\n"), "7 0\nline 2, offset 0: the Call's abort action names label 1, which no Label has\n"),
+        (&format!("{head}ret\nnop\n"), "8 1\nline 3, offset 1: a Nop is the last instruction and can fall past the end\n"),
+        (&format!("{head}label L1\ncall Stop abort L1 into t0\n"), "8 1\nline 3, offset 1: a Stop with an abort action is the last instruction and can fall past the end\n"),
+    ] {
+        let sheet = file(&dir, "sheet", text);
+        for command in ["check", "flow", "rewrite", "list"] {
+            refused(&[command, &sheet], &format!("refused {says}"));
+        }
+    }
+    let mut bytes = fs::read(stored("m1.sheet")).unwrap();
+    bytes[512 + 20] = 1;
+    bytes[514] += 1;
+    refused(&["check", &file(&dir, "20", &bytes)], "refused 2 1\nblock 1: its byte 20 is 1 and should be 0\n");
+    let (label, attr) = ("label L1\nbranch L1 L65535 on t0\nlabel L65535\nret\n", "label L1\nbranch L1 L2 on t0\nlabel L2\nret @65533\n");
+    for (code, from) in [(label, "65536 on and new attribute ids from 1"), (attr, "3 on and new attribute ids from 65534")] {
+        let ten = file(&dir, "ten", format!("locals 1 user 0 parameters 0 references t0\n{code}"));
+        let says = format!("refused 10 0\nthe rewriting needs new labels from {from} on, and one of them would be above 65,535\n");
+        refused(&["rewrite", &ten], &says);
+    }
+}
+
+/// `--help` of each command has examples, and they are what the command prints.
+#[test]
+fn help_has_examples_that_run() {
+    let dir = folder("help");
+    let all = run(&["--help"]);
+    assert_eq!(all.0, 0);
+    std::os::unix::fs::symlink(root().join("sheets").canonicalize().unwrap(), dir.join("sheets")).unwrap();
+    for name in COMMANDS {
+        assert!(all.1.contains(&format!("\n  {name} ")), "{name}");
+        let help = run(&[name, "--help"]);
+        assert_eq!((help.0, &help), (0, &run(&["help", name])));
+        assert_eq!(help, run(&[name, "-h", "nothing"]));
+        let mut examples = help.1.split("\n$ sorzibelu ").skip(1).peekable();
+        assert!(examples.peek().is_some(), "{name}");
+        for example in examples {
+            let (words, says) = example.split_once('\n').unwrap_or((example, ""));
+            let out = command(&words.split(' ').collect::<Vec<_>>()).current_dir(&dir).output().unwrap();
+            let out = String::from_utf8(out.stdout).unwrap();
+            assert!(format!("{says}\n").starts_with(&out), "{name}: {words}\n{out}");
+        }
+    }
+    assert_eq!(run(&["help"]), all);
+    assert_eq!(run(&["-h"]), all);
+    assert!(run(&["--version"]).1.starts_with("sorzibelu 0"));
+}
+
+/// A folder of answers gives the same marks whatever the number of threads.
+#[test]
+fn marks() {
+    let dir = folder("marks");
+    let right = file(&dir, "right", "0 3 3\n1 t0,t1 t0,t1\n2 2 2\n3 t1 -\ntaken 7\n");
+    let m2 = stored("m2.txt");
+    answered(&["mark", &m2, &right], "5 of 5 right\n");
+    answered(&["mark", &stored("m2.sheet"), &right], "5 of 5 right\n");
+    (0..40).for_each(|i| drop(file(&dir, &format!("{i:02}"), format!("0 3 3\n1 3 {}\ntaken 7\n", i % 4))));
+    let here = dir.display().to_string();
+    let (status, out, err) = run(&["mark", &m2, &here]);
+    assert!(status == 1 && out.ends_with("41 answers: 1 all right, 40 not, 0 not marked\n") && err.is_empty(), "{status} {out} {err}");
+    let csv = run(&["mark", "--csv", &m2, &here]);
+    assert_eq!((csv.0, csv.1.lines().count()), (1, 42));
+    for threads in ["1", "2", "7"] {
+        assert_eq!(run(&["mark", "--threads", threads, &m2, &here]).1, out);
+        assert_eq!(run(&["mark", "--threads", threads, "--csv", &m2, &here]), csv);
+    }
+    answered(&["mark", "--kind", "dying", &stored("m7.txt"), &file(&dir, "dying", "2 1 0\n")], "3 of 3 right\n");
+    // an answer that cannot be read costs that answer
+    let missing = dir.join("missing").display().to_string();
+    let (status, out, err) = run(&["mark", &m2, &right, &missing]);
+    assert!(status == 2 && out.contains("5 of 5 right") && err == format!("{missing}: No such file or directory (os error 2)\n"), "{status} {out} {err}");
+    trouble(&["mark", &m2], "too few words");
+    trouble(&["mark", &missing, &right], "missing: No such file");
+    trouble(&["mark", "--kind", "x", &m2, &right], "'x' is no kind");
+    trouble(&["mark", "--threads", "x", &m2, &right], "'x' is no number of threads");
+}

@@ -1,0 +1,75 @@
+/* Every entry point of include/sorzibelu.h on M1, M7 and refused input, null pointers with length 0 among it. */
+#include "sorzibelu.h"
+
+#include <stdio.h>
+#include <string.h>
+
+static int failed = 0;
+
+static void is(const char *what, uint64_t answer, uint32_t number, uint32_t value) {
+    if (SORZIBELU_NUMBER(answer) != number || SORZIBELU_VALUE(answer) != value) {
+        printf("%s: %u %u, not %u %u\n", what, SORZIBELU_NUMBER(answer), SORZIBELU_VALUE(answer), number, value);
+        failed = 1;
+    }
+}
+
+static void same(const char *what, const void *a, const void *b, size_t n) {
+    if (memcmp(a, b, n) != 0) {
+        printf("%s: other bytes\n", what);
+        failed = 1;
+    }
+}
+
+static uint8_t m1[1024], out[SORZIBELU_MAX_SHEET_BYTES], sets[SORZIBELU_LIVE_BYTES];
+static uint8_t text[SORZIBELU_PAGE_BYTES];
+static uint16_t table[SORZIBELU_FLOW_NUMBERS];
+
+int main(void) {
+    static const uint32_t chain[6] = {0, 1, 0, 1, 2, 0};
+    static const uint16_t row[6] = {0, 0, 2, 1, 0, 0};
+    static const uint8_t before[16] = {1}, order[3] = {2, 1, 0};
+    uint8_t nodes[SORZIBELU_MAX_NODES] = {0};
+    /* n, locals, user locals, parameters; the Ret of local 0; numbers and checks */
+    m1[4] = m1[6] = m1[8] = m1[10] = 1;
+    m1[544] = 2;
+    m1[544 + 9] = 1;
+    m1[512] = 1;
+    m1[2] = m1[514] = 4;
+
+    is("check", sorzibelu_check(m1, 1024), 0, 0);
+    is("flow", sorzibelu_flow(m1, 1024, table, SORZIBELU_FLOW_NUMBERS), 0, 1);
+    same("flow", table, row, sizeof row);
+    is("live", sorzibelu_live(m1, 1024, sets, sizeof sets), 0, 3);
+    same("live", sets, before, 16);
+    is("rewrite", sorzibelu_rewrite(m1, 1024, out, sizeof out), 0, 1024);
+    same("rewrite", out, m1, 1024);
+    is("in use", sorzibelu_in_use(3, 4, chain, 6, 0), 0, 1);
+    is("conditional", sorzibelu_conditional(3, 4, chain, 6, 0), 0, 0);
+    is("dying", sorzibelu_dying(3, 4, chain, 6, 3, 0, chain, 6, nodes, sizeof nodes), 0, 3);
+    same("dying", nodes, order, 3);
+
+    /* null with length 0 */
+    is("no sheet", sorzibelu_check(NULL, 0), SORZIBELU_LENGTH, 0);
+    is("no sheet, no table", sorzibelu_flow(NULL, 0, NULL, 0), SORZIBELU_LENGTH, 0);
+    is("no table", sorzibelu_flow(m1, 1024, NULL, 0), SORZIBELU_SHORT_OUTPUT, 0);
+    is("no sets", sorzibelu_live(m1, 1024, NULL, 0), SORZIBELU_SHORT_OUTPUT, 0);
+    is("no output", sorzibelu_rewrite(m1, 1024, NULL, 0), SORZIBELU_SHORT_OUTPUT, 0);
+    is("no triples", sorzibelu_in_use(1, 1, NULL, 0, 0), 0, 1);
+    is("no triples, no node", sorzibelu_conditional(0, 0, NULL, 0, 0), SORZIBELU_ASKED_NODE, 0);
+    is("nothing at all", sorzibelu_dying(0, 0, NULL, 0, 0, 0, NULL, 0, NULL, 0), 0, 0);
+    /* places */
+    m1[514]++;
+    is("a wrong check", sorzibelu_check(m1, 1024), SORZIBELU_BLOCK, 1);
+    is("two numbers", sorzibelu_dying(3, 4, chain, 6, 3, 0, chain, 2, nodes, sizeof nodes), SORZIBELU_TRIPLE, 1300);
+
+    /* texts */
+    is("page", sorzibelu_page(m1, 1024, text, sizeof text), 0, 12);
+    same("page", text, "refused 2 1\n", 12);
+    m1[514]--;
+    is("livelist", sorzibelu_livelist(m1, 1024, text, sizeof text), 0, 44);
+    same("livelist", text, "0 0000000000000001 0000000000000000\ntaken 3\n", 44);
+    is("a short page", sorzibelu_page(m1, 1024, text, SORZIBELU_PAGE_BYTES - 1), SORZIBELU_SHORT_OUTPUT, 0);
+    is("no livelist", sorzibelu_livelist(m1, 1024, NULL, 0), SORZIBELU_SHORT_OUTPUT, 0);
+    puts(failed ? "failed" : "all right");
+    return failed;
+}
