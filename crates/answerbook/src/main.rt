@@ -3,24 +3,21 @@
 ghost use Rattle.stackless_control_flow_graph.specs.Arrays.{CheckedSheet};
 use base::Checked;
 use base::LIVE_BYTES;
-use base::MAX_BYTES;
+use base::READ_BYTES;
 use base::SLOTS;
 use libc::STDERR_FILENO;
 use libc::STDOUT_FILENO;
 use listing::text::put_refused;
-use livevar_analysis::analysis::analyze;
-use pages::page::SECTION_BYTES;
-use pages::sections::put_code_section;
-use pages::sections::put_flow_section;
-use pages::sections::put_live_section;
-use pages::sections::put_rewritten_section;
+use live::analysis::analyze;
+use page::page::SECTION_BYTES;
+use page::sections::put_code_section;
+use page::sections::put_flow_section;
+use page::sections::put_live_section;
+use page::sections::put_rewritten_section;
 use sheet::reader::u16_at;
 use sheet_checks::check::check_into;
 use streams::Input;
 use streams::read_input;
-
-// One byte more than the longest sheet: a longer input is refused by its length.
-const ROOM: usize = MAX_BYTES + 1;
 
 // Prints a text, and says whether it could.
 fn print(text: &[u8]) -> bool {
@@ -77,7 +74,7 @@ fn print_all(s: &[u8]) {
 }
 
 fn main() {
-    let mut sheet = [0u8; ROOM];
+    let mut sheet = [0u8; READ_BYTES];
     match read_input(&mut sheet) {
         Input::Failed => {
             io::write_all(

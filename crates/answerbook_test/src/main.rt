@@ -3,8 +3,8 @@
 use base::BLOCK_BYTES;
 use libc::STDIN_FILENO;
 use libc::STDOUT_FILENO;
-use pages::page::PAGE_BYTES;
-use pages::page::put_page;
+use page::page::PAGE_BYTES;
+use page::page::put_page;
 
 // Two blocks.
 const SHEET: usize = 2 * BLOCK_BYTES;

@@ -30,7 +30,23 @@ pub fn triple_at(triples: &[u32], i: usize) -> Triple
     }
 }
 
-// Of an accepted graph: a triple's place in the list, its parent and its child.
+// The parent of triple i of an accepted graph.
+pub fn parent_at(triples: &[u32], i: usize) -> u8
+    requires { ⌜ NodesBelow maxLocals (now triples) × (i < length (now triples) / 3) ⌝ }
+    ensures { λ r. ⌜ (r ≡ getD (now (triples .entry)) (3 * i) 0) × (r < maxLocals) ⌝ }
+{
+    triples[3 * i] as u8
+}
+
+// Its child.
+pub fn child_at(triples: &[u32], i: usize) -> u8
+    requires { ⌜ NodesBelow maxLocals (now triples) × (i < length (now triples) / 3) ⌝ }
+    ensures { λ r. ⌜ (r ≡ getD (now (triples .entry)) (3 * i + 1) 0) × (r < maxLocals) ⌝ }
+{
+    triples[3 * i + 1] as u8
+}
+
+// Its place in the list, its parent and its child.
 pub struct Lead {
     pub place: usize,
     pub parent: usize,
@@ -41,11 +57,10 @@ pub fn lead_at(triples: &[u32], i: usize) -> Lead
     requires { ⌜ NodesBelow maxLocals (now triples) × (i < length (now triples) / 3) ⌝ }
     ensures { λ r. ⌜ (r .place ≡ i) × (r .parent ≡ getD (now (triples .entry)) (3 * i) 0) × (r .child ≡ getD (now (triples .entry)) (3 * i + 1) 0) × (r .parent < maxLocals) × (r .child < maxLocals) ⌝ }
 {
-    let t = triple_at(triples, i);
     Lead {
         place: i,
-        parent: t.parent as usize,
-        child: t.child as u8,
+        parent: u8_to_usize(parent_at(triples, i)),
+        child: child_at(triples, i),
     }
 }
 

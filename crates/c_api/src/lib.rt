@@ -48,7 +48,7 @@ pub extern "C" fn sorzibelu_flow(sheet: &[u8], table: &mut [u16]) -> u64
     ensures written { λ _. ⌜ now (table .exit) ≡ outputAfter (flowReply (now (sheet .entry)) (length (now (table .entry)))) (now (table .entry)) ⌝ }
     ensures means { λ _. ⌜ (resultOf (flowReply (now (sheet .entry)) (length (now (table .entry)))) .number ≡ 0 → FlowMeaning (codeOf (now (sheet .entry))) (resultOf (flowReply (now (sheet .entry)) (length (now (table .entry)))) .value) (now (table .exit))) ⌝ }
 {
-    pack(stackless_control_flow_graph::forward::flow(sheet, table))
+    pack(flow_table::forward::flow(sheet, table))
 }
 
 // How many blocks were taken, and the sets before and after each instruction at the front of `sets`.
@@ -59,7 +59,7 @@ pub extern "C" fn sorzibelu_live(sheet: &[u8], sets: &mut [u8]) -> u64
     ensures least { λ _. ⌜ (resultOf (liveReply (now (sheet .entry)) (length (now (sets .entry)))) .number ≡ 0 → LeastLive (now (sheet .entry)) (now (sets .exit))) ⌝ }
     ensures counted { λ _. ⌜ (resultOf (liveReply (now (sheet .entry)) (length (now (sets .entry)))) .number ≡ 0 → TakenUntilEmpty (now (sheet .entry)) (resultOf (liveReply (now (sheet .entry)) (length (now (sets .entry)))) .value)) ⌝ }
 {
-    pack(livevar_analysis::analysis::live(sheet, sets))
+    pack(live::analysis::live(sheet, sets))
 }
 
 // How many bytes the rewritten sheet has, and the sheet at the front of `out`.
@@ -69,7 +69,7 @@ pub extern "C" fn sorzibelu_rewrite(sheet: &[u8], out: &mut [u8]) -> u64
     ensures written { λ _. ⌜ now (out .exit) ≡ outputAfter (rewriteReply (now (sheet .entry)) (length (now (out .entry)))) (now (out .entry)) ⌝ }
     ensures accepted { λ _. ⌜ (resultOf (rewriteReply (now (sheet .entry)) (length (now (out .entry)))) .number ≡ 0 → AcceptedRewriting (now (sheet .entry)) (take (resultOf (rewriteReply (now (sheet .entry)) (length (now (out .entry)))) .value) (now (out .exit)))) ⌝ }
 {
-    pack(livevar_transform::rewrite::rewrite(sheet, out))
+    pack(rewrite::rewrite::rewrite(sheet, out))
 }
 
 // Whether a node is in use: 1 or 0.
@@ -78,7 +78,7 @@ pub extern "C" fn sorzibelu_in_use(nodes: u32, live: u64, triples: &[u32], node:
     ensures result { λ r. ⌜ r ≡ packed (resultOf (inUseReply (graphInput nodes live (now (triples .entry))) node)) ⌝ }
     ensures means { λ _. ⌜ (resultOf (inUseReply (graphInput nodes live (now (triples .entry))) node) .number ≡ 0 → Decides (eqb (resultOf (inUseReply (graphInput nodes live (now (triples .entry))) node) .value) 1) (InUse (graphOf (graphInput nodes live (now (triples .entry)))) node)) ⌝ }
 {
-    pack(borrow_analysis::in_use(nodes, live, triples, node))
+    pack(borrow_info::in_use(nodes, live, triples, node))
 }
 
 // Whether a node is conditional: 1 or 0.
@@ -87,7 +87,7 @@ pub extern "C" fn sorzibelu_conditional(nodes: u32, live: u64, triples: &[u32], 
     ensures result { λ r. ⌜ r ≡ packed (resultOf (conditionalReply (graphInput nodes live (now (triples .entry))) node)) ⌝ }
     ensures means { λ _. ⌜ (resultOf (conditionalReply (graphInput nodes live (now (triples .entry))) node) .number ≡ 0 → Decides (eqb (resultOf (conditionalReply (graphInput nodes live (now (triples .entry))) node) .value) 1) (Conditional (graphOf (graphInput nodes live (now (triples .entry)))) node)) ⌝ }
 {
-    pack(borrow_analysis::conditional(nodes, live, triples, node))
+    pack(borrow_info::conditional(nodes, live, triples, node))
 }
 
 // How many nodes die, and each as one byte of `out`.
@@ -105,7 +105,7 @@ pub extern "C" fn sorzibelu_dying(
     ensures written { λ _. ⌜ now (out .exit) ≡ outputAfter (dyingReply (graphInput nodes live (now (triples .entry))) (graphInput «next_nodes» «next_live» (now («next_triples» .entry))) (length (now (out .entry)))) (now (out .entry)) ⌝ }
     ensures means { λ _. ⌜ (resultOf (dyingReply (graphInput nodes live (now (triples .entry))) (graphInput «next_nodes» «next_live» (now («next_triples» .entry))) (length (now (out .entry)))) .number ≡ 0 → DyingList (graphOf (graphInput nodes live (now (triples .entry)))) (graphOf (graphInput «next_nodes» «next_live» (now («next_triples» .entry)))) (take (resultOf (dyingReply (graphInput nodes live (now (triples .entry))) (graphInput «next_nodes» «next_live» (now («next_triples» .entry))) (length (now (out .entry)))) .value) (now (out .exit)))) ⌝ }
 {
-    pack(borrow_analysis::dying(
+    pack(borrow_info::dying(
         nodes,
         live,
         triples,
@@ -122,7 +122,7 @@ pub extern "C" fn sorzibelu_livelist(sheet: &[u8], out: &mut [u8]) -> u64
     ensures result { λ r. ⌜ r ≡ packed (resultOf (livelistReply (now (sheet .entry)) (length (now (out .entry))))) ⌝ }
     ensures written { λ _. ⌜ now (out .exit) ≡ outputAfter (livelistReply (now (sheet .entry)) (length (now (out .entry)))) (now (out .entry)) ⌝ }
 {
-    pack(listing::livelist::livelist(sheet, out))
+    pack(live_text::livelist::livelist(sheet, out))
 }
 
 // How many bytes the page of a sheet has, and the page at the front of `out`.
@@ -131,5 +131,5 @@ pub extern "C" fn sorzibelu_page(sheet: &[u8], out: &mut [u8]) -> u64
     ensures result { λ r. ⌜ r ≡ packed (resultOf (pageReply (now (sheet .entry)) (length (now (out .entry))))) ⌝ }
     ensures written { λ _. ⌜ now (out .exit) ≡ outputAfter (pageReply (now (sheet .entry)) (length (now (out .entry)))) (now (out .entry)) ⌝ }
 {
-    pack(pages::page::page(sheet, out))
+    pack(page::page::page(sheet, out))
 }

@@ -5,7 +5,7 @@ use Prim.Native.Nat.{ℕ, _+_, _*_, _≤_, _<_}
 use Rattle.base.specs.ListLaws.{by-eq}
 use Rattle.dataflow_analysis.specs.Lattice.{Lattice, Laws, Bounded}
 use Rattle.dataflow_analysis.specs.Worklist.{State, setAt, Met, joined, receive, begin, popped, step, run}
-use Rattle.dataflow_analysis.specs.WorklistLaws.{Graph, Under, Narrow, Ended, met-first, popped-ok, step-ok, step-within, run-keeps, begin-under, ends}
+use Rattle.dataflow_analysis.specs.WorklistLaws.{FlowGraph, Under, Narrow, Ended, met-first, popped-ok, step-ok, step-within, run-keeps, begin-under, ends}
 use Rattle.dataflow_analysis.specs.ReceiveLaws.{Ok, by-news, joined-grows, joined-set, joined-set-other, receive-grows, over-keeps, begin-ok}
 
 module _ {L : Lattice} (W : Laws L) (leads : ℕ → List ℕ) (out : ℕ → L .Value → L .Value) where
@@ -48,7 +48,7 @@ module _ {L : Lattice} (W : Laws L) (leads : ℕ → List ℕ) (out : ℕ → L 
 
   -- ---- a step
 
-  module _ (mono : Monotone) (n : ℕ) (graph : Graph W leads out n) (st : State L) (k : ℕ) (ks : List ℕ) (first : st .list ≡ k ∷ ks) (ok : Ok W n st) where
+  module _ (mono : Monotone) (n : ℕ) (graph : FlowGraph W leads out n) (st : State L) (k : ℕ) (ks : List ℕ) (first : st .list ≡ k ∷ ks) (ok : Ok W n st) where
     pub step-under : (c : ℕ → A) → Solution c → Under W leads out c st → Under W leads out c (step leads out st k ks)
     step-under c sol u =
         step-within W leads out n graph st k ks first ok c (λ p i. W .le-trans (mono .each k _ _ (u .each k)) (sol .each k p i)) u
@@ -80,7 +80,7 @@ module _ {L : Lattice} (W : Laws L) (leads : ℕ → List ℕ) (out : ℕ → L 
     pub exact : Exact st
     pub least : (c : ℕ → A) → Solution c → Under W leads out c st
 
-  module _ {top : A} (S : Bounded W top) (n start : ℕ) (graph : Graph W leads out n) (mono : Monotone) (narrow : Narrow W leads out start top) (inside : start < n) where
+  module _ {top : A} (S : Bounded W top) (n start : ℕ) (graph : FlowGraph W leads out n) (mono : Monotone) (narrow : Narrow W leads out start top) (inside : start < n) where
     record Exactly (st : State L) : Type 0 where
       ok : Ok W n st
       exact : Exact st

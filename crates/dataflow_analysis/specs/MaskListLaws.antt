@@ -45,9 +45,9 @@ mask-size l = record {
 
 -- ---- a search that ends: one of the first n numbers is right, or none is
 
-find : (P : ℕ → Type 0) → ((k : ℕ) → Dec (P k)) → (n : ℕ) → ((k : ℕ) × P k) ⊎ ((k : ℕ) → k < n → P k → ⊥)
-find P dec zero = inr (λ k h p. not-suc-le-zero h)
-find P dec (suc n) = here (dec n) (find P dec n)
+found-below : (P : ℕ → Type 0) → ((k : ℕ) → Dec (P k)) → (n : ℕ) → ((k : ℕ) × P k) ⊎ ((k : ℕ) → k < n → P k → ⊥)
+found-below P dec zero = inr (λ k h p. not-suc-le-zero h)
+found-below P dec (suc n) = here (dec n) (found-below P dec n)
   where
     here : Dec (P n) → ((k : ℕ) × P k) ⊎ ((k : ℕ) → k < n → P k → ⊥) → ((k : ℕ) × P k) ⊎ ((k : ℕ) → k < suc n → P k → ⊥)
     here (yes p) rest = inl (n, p)
@@ -56,30 +56,26 @@ find P dec (suc n) = here (dec n) (find P dec n)
 
 -- ---- the theorem, by elements
 
--- p was met, and its set has m
-abbrev pub Has : ℕ → State masks → ℕ → Type 0
-Has m st p = nodes.Has mask-laws m st p
-
 module _ (leads : ℕ → List ℕ) (out : ℕ → ℕ → ℕ) where
   -- what j hands on has been received by every node that it leads to
-  abbrev pub Handed : State masks → ℕ → Type 0
-  Handed st j = general.Handed mask-laws leads out st j
+  abbrev pub MaskHanded : State masks → ℕ → Type 0
+  MaskHanded st j = general.Handed mask-laws leads out st j
 
   -- the candidate receives all that its own sets hand on
-  abbrev pub Solution : (ℕ → ℕ) → Type 0
-  Solution c = least.Solution mask-laws leads out c
+  abbrev pub MaskSolution : (ℕ → ℕ) → Type 0
+  MaskSolution c = least.Solution mask-laws leads out c
 
   -- no set has more than the candidate's
-  abbrev pub Under : (ℕ → ℕ) → State masks → Type 0
-  Under c st = general.Under mask-laws leads out c st
+  abbrev pub MaskUnder : (ℕ → ℕ) → State masks → Type 0
+  MaskUnder c st = general.Under mask-laws leads out c st
 
   -- n nodes that lead to each other, and hand on more when they have more
-  pub record Graph (n : ℕ) : Type 0 where
-    pub inside : (k : ℕ) → nodes.NodesBelow n (leads k)
+  pub record MaskGraph (n : ℕ) : Type 0 where
+    pub inside : (k : ℕ) → nodes.AllBelow n (leads k)
     pub mono : (k a b : ℕ) → Sub a b → Sub (out k a) (out k b)
 
   -- sets of l elements, and a start that nothing leads to
-  pub record Narrow (start l : ℕ) : Type 0 where
+  pub record MaskNarrow (start l : ℕ) : Type 0 where
     pub apart : (k : ℕ) → List·Memᴰ start (leads k) → ⊥
     pub small : (k m : ℕ) → m < 2 ^ l → out k m < 2 ^ l
 
@@ -95,25 +91,25 @@ module _ (leads : ℕ → List ℕ) (out : ℕ → ℕ → ℕ) where
     pub each : (p i : ℕ) → bit (setAt st p) i ≡ 1 → Source st p i
 
   -- the list is empty; each met node has handed on what it has; each element has a source; no solution has less; and this many were taken
-  pub record Best (n start l : ℕ) (st : State masks) : Type 0 where
+  pub record MaskBest (n start l : ℕ) (st : State masks) : Type 0 where
     pub done : st .list ≡ []
     pub first : Met st start
     pub bare : setAt st start ≡ 0
-    pub handed : (j : ℕ) → Met st j → Handed st j
+    pub handed : (j : ℕ) → Met st j → MaskHanded st j
     pub sourced : Sourced st
-    pub least : (c : ℕ → ℕ) → Solution c → Under c st
+    pub least : (c : ℕ → ℕ) → MaskSolution c → MaskUnder c st
     pub few : st .taken + l ≤ n + n * l
 
   -- k is such a node
-  record Gives (st : State masks) (p i k : ℕ) : Type 0 where
+  record GivesKey (st : State masks) (p i k : ℕ) : Type 0 where
     met : Met st k
     to : List·Memᴰ p (leads k)
     gives : bit (out k (setAt st k)) i ≡ 1
 
-  gives? : (st : State masks) (p i k : ℕ) → Dec (Gives st p i k)
+  gives? : (st : State masks) (p i k : ℕ) → Dec (GivesKey st p i k)
   gives? st p i k = go (ℕ-discrete (getD (st .met) k 0) 1) (find-in p (leads k)) (ℕ-discrete (bit (out k (setAt st k)) i) 1)
     where
-      go : Dec (Met st k) → Dec (List·Memᴰ p (leads k)) → Dec (bit (out k (setAt st k)) i ≡ 1) → Dec (Gives st p i k)
+      go : Dec (Met st k) → Dec (List·Memᴰ p (leads k)) → Dec (bit (out k (setAt st k)) i ≡ 1) → Dec (GivesKey st p i k)
       go (yes a) (yes b) (yes c) = yes (record { met = a; to = b; gives = c })
       go (yes a) (yes b) (no g) = no (λ z. g (z .gives))
       go (yes a) (no g) c = no (λ z. g (z .to))
@@ -131,10 +127,10 @@ module _ (leads : ℕ → List ℕ) (out : ℕ → ℕ → ℕ) where
   }
 
   -- an element that no node hands on could be left out of the set, which is the least above all that is handed on
-  sourced-by : (n : ℕ) (st : State masks) → nodes.Ok mask-laws n st → ((j : ℕ) → Met st j → Handed st j) → least.Exact mask-laws leads out st → Sourced st
-  sourced-by n st ok handed exact = record { each = λ p i b. go p i b (find (Gives st p i) (gives? st p i) n) }
+  sourced-by : (n : ℕ) (st : State masks) → nodes.Ok mask-laws n st → ((j : ℕ) → Met st j → MaskHanded st j) → least.Exact mask-laws leads out st → Sourced st
+  sourced-by n st ok handed exact = record { each = λ p i b. go p i b (found-below (GivesKey st p i) (gives? st p i) n) }
     where
-      go : (p i : ℕ) → bit (setAt st p) i ≡ 1 → ((k : ℕ) × Gives st p i k) ⊎ ((k : ℕ) → k < n → Gives st p i k → ⊥) → Source st p i
+      go : (p i : ℕ) → bit (setAt st p) i ≡ 1 → ((k : ℕ) × GivesKey st p i k) ⊎ ((k : ℕ) → k < n → GivesKey st p i k → ⊥) → Source st p i
       go p i b (inl f) = record { from = f .0; met = f .1 .met; to = f .1 .to; gives = f .1 .gives }
       go p i b (inr none) =
           let rest : Sub (setAt st p) (minus (setAt st p) (2 ^ i)) =
@@ -146,7 +142,7 @@ module _ (leads : ℕ → List ℕ) (out : ℕ → ℕ → ℕ) where
   below-full l v h = sub-lt l h (ones-lt l)
 
   -- enough removals end the run, and it is the best there is
-  pub best : (n start l : ℕ) → Graph n → Narrow start l → start < n → (fuel : ℕ) → n + n * l ≤ fuel + l → Best n start l (run leads out fuel (begin n start))
+  pub best : (n start l : ℕ) → MaskGraph n → MaskNarrow start l → start < n → (fuel : ℕ) → n + n * l ≤ fuel + l → MaskBest n start l (run leads out fuel (begin n start))
   best n start l graph narrow inside fuel enough = record {
     done = all .ended .done;
     first = all .ended .first;

@@ -11,22 +11,22 @@ use Rattle.dataflow_analysis.specs.declared.Cursor.{Cursor}
 use Rattle.dataflow_analysis.specs.declared.FirstKey.the-variants.{Key, Empty}
 use Rattle.dataflow_analysis.specs.Lattice.{Lattice}
 use Rattle.dataflow_analysis.specs.Worklist.{State, popped, step, run}
-use Rattle.dataflow_analysis.specs.Queue.{listOf, next, takenOf, Queued, stateOf}
+use Rattle.dataflow_analysis.specs.Queue.{waiting, pastFirst, takenOf, Queued, stateOf}
 
 -- ---- the list
 
-pub list-none : (q : List ℕ) (c : Cursor) → c .len ≡ 0 → listOf q c ≡ []
-unfolding listOf
+pub list-none : (q : List ℕ) (c : Cursor) → c .len ≡ 0 → waiting q c ≡ []
+unfolding waiting
 list-none q c e = ap (λ (n : ℕ). take n (drop (c .head) q)) e
 
-pub list-length : (q : List ℕ) (c : Cursor) → c .head + c .len ≤ length q → length (listOf q c) ≡ c .len
-unfolding listOf
+pub list-length : (q : List ℕ) (c : Cursor) → c .head + c .len ≤ length q → length (waiting q c) ≡ c .len
+unfolding waiting
 list-length q c h = length-take-le (c .len) (drop (c .head) q) (omega (arith, length-drop (c .head) q))
 
 -- after `put`
 pub put-list : (q : List ℕ) (c r : Cursor) (k : ℕ) → c .head + c .len < length q → r .head ≡ c .head → r .len ≡ c .len + 1
     → Queued q c k (set q (c .head + c .len) k) r
-unfolding listOf
+unfolding waiting
 put-list q c r k fits eh el = record {
   queued = ap₂ (λ (n h : ℕ). take n (drop h (set q (c .head + c .len) k))) (el ∙ add-one (c .len)) eh ∙ ap (take (suc (c .len))) (drop-set-add (c .head) q (c .len) k) ∙ take-suc-set (drop (c .head) q) (c .len) k (omega (arith, length-drop (c .head) q));
   same-head = eh;
@@ -34,8 +34,8 @@ put-list q c r k fits eh el = record {
 }
 
 -- where a key waits
-pub take-first : (q : List ℕ) (c : Cursor) → 0 < c .len → c .head + c .len ≤ length q → listOf q c ≡ getD q (c .head) 0 ∷ listOf q (next c)
-unfolding listOf
+pub take-first : (q : List ℕ) (c : Cursor) → 0 < c .len → c .head + c .len ≤ length q → waiting q c ≡ getD q (c .head) 0 ∷ waiting q (pastFirst c)
+unfolding waiting
 take-first q c some fits =
     let size : c .len ≡ suc (c .len - 1) = omega arith in
     ap₂ (λ (n : ℕ) (l : List ℕ). take n l) size (drop-cons q (c .head) 0 (omega arith))
@@ -45,32 +45,32 @@ take-first q c some fits =
 
 -- k waited first, and the others still wait
 pub record Took (q : List ℕ) (c : Cursor) (k : ℕ) (n : Cursor) : Type 0 where
-  pub queued : listOf q c ≡ k ∷ listOf q n
+  pub queued : waiting q c ≡ k ∷ waiting q n
   pub next-head : n .head ≡ c .head + 1
   pub same-end : n .head + n .len ≡ c .head + c .len
 
-pub took-key : (q : List ℕ) (c : Cursor) (k : ℕ) (n : Cursor) → c .head + c .len ≤ length q → Key k n ≡ takenOf (listOf q c) c → Took q c k n
-took-key q c k n h e = go (listOf q c) refl e
+pub took-key : (q : List ℕ) (c : Cursor) (k : ℕ) (n : Cursor) → c .head + c .len ≤ length q → Key k n ≡ takenOf (waiting q c) c → Took q c k n
+took-key q c k n h e = go (waiting q c) refl e
   where
-    go : (l : List ℕ) → listOf q c ≡ l → Key k n ≡ takenOf l c → Took q c k n
+    go : (l : List ℕ) → waiting q c ≡ l → Key k n ≡ takenOf l c → Took q c k n
     go [] f e = let z : _≡_ {A = ℕ} 0 1 = cc in absurd (omega arith)
     go (x ∷ xs) f e =
         let some : 0 < c .len = omega (arith, list-length q c h, ap length f) in
-        let front : listOf q c ≡ getD q (c .head) 0 ∷ listOf q (next c) = take-first q c some h in
-        let is : n ≡ next c = cc in
+        let front : waiting q c ≡ getD q (c .head) 0 ∷ waiting q (pastFirst c) = take-first q c some h in
+        let is : n ≡ pastFirst c = cc in
         let key : k ≡ getD q (c .head) 0 = cc in
         record { queued = rw (is, key) front; next-head = rw is refl; same-end = rw is (omega arith) }
 
 -- none waited
-pub took-none : (q : List ℕ) (c : Cursor) → Empty ≡ takenOf (listOf q c) c → listOf q c ≡ []
-took-none q c e = go (listOf q c) e
+pub took-none : (q : List ℕ) (c : Cursor) → Empty ≡ takenOf (waiting q c) c → waiting q c ≡ []
+took-none q c e = go (waiting q c) e
   where
     go : (l : List ℕ) → Empty ≡ takenOf l c → l ≡ []
     go [] e = refl
     go (x ∷ xs) e = let z : _≡_ {A = ℕ} 0 1 = cc in absurd (omega arith)
 
 -- the state after it is the definition's
-pub took-popped : (sets met q : List ℕ) (c n : Cursor) (t : ℕ) → stateOf sets met q n (suc t) ≡ popped (stateOf sets met q c t) (listOf q n)
+pub took-popped : (sets met q : List ℕ) (c n : Cursor) (t : ℕ) → stateOf sets met q n (suc t) ≡ popped (stateOf sets met q c t) (waiting q n)
 unfolding stateOf popped
 took-popped sets met q c n t = refl
 

@@ -16,13 +16,13 @@ use Rattle.dataflow_analysis.specs.Lattice.{Lattice, Laws, Bounded}
 use Rattle.dataflow_analysis.specs.Worklist.{State, setAt, Met, news, joined, receive, begin}
 
 -- all the nodes of a list are below n
-pub record NodesBelow (n : ℕ) (ps : List ℕ) : Type 0 where
+pub record AllBelow (n : ℕ) (ps : List ℕ) : Type 0 where
   pub each : (p : ℕ) → List·Memᴰ p ps → p < n
 
-inside-head : {n p : ℕ} {ps : List ℕ} → NodesBelow n (p ∷ ps) → p < n
+inside-head : {n p : ℕ} {ps : List ℕ} → AllBelow n (p ∷ ps) → p < n
 inside-head h = h .each _ (List·Memᴰ·head refl)
 
-inside-tail : {n p : ℕ} {ps : List ℕ} → NodesBelow n (p ∷ ps) → NodesBelow n ps
+inside-tail : {n p : ℕ} {ps : List ℕ} → AllBelow n (p ∷ ps) → AllBelow n ps
 inside-tail h = record { each = λ q m. h .each q (List·Memᴰ·tail m) }
 
 module _ {L : Lattice} (W : Laws L) where
@@ -134,7 +134,7 @@ module _ {L : Lattice} (W : Laws L) where
   -- ---- many nodes receive a set
 
   -- what one receipt keeps, many keep
-  pub over-keeps : (P : State L → Type 0) (n : ℕ) (m : A) (ps : List ℕ) → NodesBelow n ps
+  pub over-keeps : (P : State L → Type 0) (n : ℕ) (m : A) (ps : List ℕ) → AllBelow n ps
       → ((st : State L) (p : ℕ) → List·Memᴰ p ps → p < n → Ok n st → P st → P (receive m st p))
       → (st : State L) → Ok n st → P st → P (over (receive m) st ps)
   unfolding over
@@ -143,10 +143,10 @@ module _ {L : Lattice} (W : Laws L) where
       over-keeps P n m ps (inside-tail inside) (λ s q i. keep s q (List·Memᴰ·tail i)) (receive m st p)
       (receive-ok n m st p ok (inside-head inside)) (keep st p (List·Memᴰ·head refl) (inside-head inside) ok h)
 
-  pub over-ok : (n : ℕ) (m : A) (ps : List ℕ) → NodesBelow n ps → (st : State L) → Ok n st → Ok n (over (receive m) st ps)
+  pub over-ok : (n : ℕ) (m : A) (ps : List ℕ) → AllBelow n ps → (st : State L) → Ok n st → Ok n (over (receive m) st ps)
   over-ok n m ps inside st ok = over-keeps (Ok n) n m ps inside (λ s p i h o g. receive-ok n m s p o h) st ok ok
 
-  pub over-grows : (n : ℕ) (m : A) (ps : List ℕ) → NodesBelow n ps → (st : State L) → Ok n st → Grows st (over (receive m) st ps)
+  pub over-grows : (n : ℕ) (m : A) (ps : List ℕ) → AllBelow n ps → (st : State L) → Ok n st → Grows st (over (receive m) st ps)
   over-grows n m ps inside st ok =
       over-keeps (Grows st) n m ps inside (λ s p i h o g. grows-trans g (receive-grows n m s p o h)) st ok (grows-refl st)
 
@@ -155,7 +155,7 @@ module _ {L : Lattice} (W : Laws L) where
     pub met : Met st p
     pub has : W .Le m (setAt st p)
 
-  pub over-has : (n : ℕ) (m : A) (ps : List ℕ) → NodesBelow n ps → (st : State L) → Ok n st → (p : ℕ) → List·Memᴰ p ps → Has m (over (receive m) st ps) p
+  pub over-has : (n : ℕ) (m : A) (ps : List ℕ) → AllBelow n ps → (st : State L) → Ok n st → (p : ℕ) → List·Memᴰ p ps → Has m (over (receive m) st ps) p
   unfolding over
   over-has n m [] inside st ok p i = absurd (List·Memᴰ·not-nil i)
   over-has n m (q ∷ qs) inside st ok p i =

@@ -15,7 +15,7 @@ use Rattle.base.specs.Lists.{over, sum}
 use Rattle.base.specs.ListLaws.{by-test, by-eq, copies-at, sum-set, sum-le}
 use Rattle.dataflow_analysis.specs.Lattice.{Lattice, Laws, Bounded}
 use Rattle.dataflow_analysis.specs.Worklist.{State, setAt, Met, news, joined, receive, begin, popped, step, run}
-use Rattle.dataflow_analysis.specs.ReceiveLaws.{NodesBelow, by-news, Ok, Grows, grows-trans, joined-set, joined-set-other, joined-met-other, joined-grows, joined-ok, over-keeps, over-ok, over-grows, Has, over-has, room, CountedState, size-at, sizes-set, joined-room, receive-counted, begin-start, begin-set, begin-met, begin-ok}
+use Rattle.dataflow_analysis.specs.ReceiveLaws.{AllBelow, by-news, Ok, Grows, grows-trans, joined-set, joined-set-other, joined-met-other, joined-grows, joined-ok, over-keeps, over-ok, over-grows, Has, over-has, room, CountedState, size-at, sizes-set, joined-room, receive-counted, begin-start, begin-set, begin-met, begin-ok}
 
 module _ {L : Lattice} (W : Laws L) (leads : ℕ → List ℕ) (out : ℕ → L .Value → L .Value) where
   abbrev A : Type 0
@@ -24,8 +24,8 @@ module _ {L : Lattice} (W : Laws L) (leads : ℕ → List ℕ) (out : ℕ → L 
   -- ---- the graph
 
   -- n nodes that lead to each other
-  pub record Graph (n : ℕ) : Type 0 where
-    pub inside : (k : ℕ) → NodesBelow n (leads k)
+  pub record FlowGraph (n : ℕ) : Type 0 where
+    pub inside : (k : ℕ) → AllBelow n (leads k)
 
   -- what j hands on has been received by every node that it leads to
   pub record Handed (st : State L) (j : ℕ) : Type 0 where
@@ -45,7 +45,7 @@ module _ {L : Lattice} (W : Laws L) (leads : ℕ → List ℕ) (out : ℕ → L 
 
   -- ---- a receipt keeps each of these
 
-  module _ (n : ℕ) (graph : Graph n) (m : A) (st : State L) (p : ℕ) (ok : Ok W n st) (inside : p < n) where
+  module _ (n : ℕ) (graph : FlowGraph n) (m : A) (st : State L) (p : ℕ) (ok : Ok W n st) (inside : p < n) where
     joined-handed : (j : ℕ) → j ≢ p → Handed st j → Handed (joined m st p) j
     joined-handed j g h = record { each = λ q i. kept q (h .each q i) }
       where
@@ -92,7 +92,7 @@ module _ {L : Lattice} (W : Laws L) (leads : ℕ → List ℕ) (out : ℕ → L 
 
   -- ---- a step keeps each of these
 
-  module _ (n : ℕ) (graph : Graph n) (st : State L) (k : ℕ) (ks : List ℕ) (first : st .list ≡ k ∷ ks) (ok : Ok W n st) where
+  module _ (n : ℕ) (graph : FlowGraph n) (st : State L) (k : ℕ) (ks : List ℕ) (first : st .list ≡ k ∷ ks) (ok : Ok W n st) where
     -- what k hands on
     abbrev m : A
     m = out k (setAt st k)
@@ -269,7 +269,7 @@ module _ {L : Lattice} (W : Laws L) (leads : ℕ → List ℕ) (out : ℕ → L 
           (sum-le (S .size top) (map (S .size) (set (st .sets) start top)) (λ i h. omega (arith, size-at W S (set (st .sets) start top) i, each i)))
 
   -- where there is news, a queue of the bound's length has a place for it: what `put` requires
-  pub put-fits : {top : A} (S : Bounded W top) (n start : ℕ) (m : A) (st : State L) (p : ℕ) → Graph n → Ok W n st → p < n → start < n → Under (full start top) st
+  pub put-fits : {top : A} (S : Bounded W top) (n start : ℕ) (m : A) (st : State L) (p : ℕ) → FlowGraph n → Ok W n st → p < n → start < n → Under (full start top) st
       → W .Le m (full start top p) → CountedState W S st → news m st p ≡ true → st .taken + length (st .list) + S .size top < n + n * S .size top
   put-fits {top} S n start m st p graph ok inside begins u h c e =
       omega (arith, c .fits, joined-room W S n m st p ok inside (W .le-trans (u .each p) (full-le start top p)) (W .le-trans h (full-le start top p)) e, room-le S n start (joined m st p) (joined-ok W n m st p ok inside) begins (joined-under n graph m st p ok inside (full start top) h u))
@@ -308,7 +308,7 @@ module _ {L : Lattice} (W : Laws L) (leads : ℕ → List ℕ) (out : ℕ → L 
     pub handed : (j : ℕ) → Met st j → Handed st j
     pub few : st .taken + S .size top ≤ n + n * S .size top
 
-  module _ {top : A} (S : Bounded W top) (n start : ℕ) (graph : Graph n) (narrow : Narrow start top) (inside : start < n) where
+  module _ {top : A} (S : Bounded W top) (n start : ℕ) (graph : FlowGraph n) (narrow : Narrow start top) (inside : start < n) where
     pub step-inv : (st : State L) (k : ℕ) (ks : List ℕ) → st .list ≡ k ∷ ks → Inv S n start st → Inv S n start (step leads out st k ks)
     step-inv st k ks e v =
         let within : (j : ℕ) → W .Le (setAt st j) top = λ j. W .le-trans (v .under .each j) (full-le start top j) in
@@ -347,7 +347,7 @@ module _ {L : Lattice} (W : Laws L) (leads : ℕ → List ℕ) (out : ℕ → L 
         now : State L
         now = over (receive (out k (setAt st k))) (popped st ks) ps
 
-        inside-ps : NodesBelow n ps
+        inside-ps : AllBelow n ps
         inside-ps = record { each = λ q i. graph .inside k .each q (part q i) }
 
         ok : Ok W n (popped st ks)

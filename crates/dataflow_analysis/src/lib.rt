@@ -5,7 +5,7 @@ ghost use Prim.Native.Nat.{_+_, _*_, _<_, _≤_};
 ghost use lib.ListN.{length};
 ghost use Rattle.base.specs.Sizes.{setWords};
 ghost use Rattle.dataflow_domains.specs.Sets.{mask};
-ghost use Rattle.dataflow_analysis.specs.Queue.{listOf, takenOf, Queued, newsAt, Received};
+ghost use Rattle.dataflow_analysis.specs.Queue.{waiting, takenOf, Queued, newsAt, Received};
 use dataflow_domains::JoinResult;
 use dataflow_domains::LiveVarState;
 
@@ -43,7 +43,7 @@ impl Cursor {
     // The one at the front.
     pub fn take(self, q: &[u16]) -> FirstKey
         requires { ⌜ self .head + self .len ≤ length (now q) ⌝ }
-        ensures { λ r. ⌜ r ≡ takenOf (listOf (now (q .entry)) self) self ⌝ }
+        ensures { λ r. ⌜ r ≡ takenOf (waiting (now (q .entry)) self) self ⌝ }
     {
         let head = self.head;
         let len = self.len;

@@ -1,14 +1,11 @@
 // livelist: reads a sheet on standard input, and prints its live sets and how many blocks were taken, or the refusal.
-use base::MAX_BYTES;
+use base::READ_BYTES;
 use libc::STDERR_FILENO;
 use libc::STDOUT_FILENO;
-use listing::livelist::TEXT_BYTES;
-use listing::livelist::put_livelist;
+use live_text::livelist::TEXT_BYTES;
+use live_text::livelist::put_livelist;
 use streams::Input;
 use streams::read_input;
-
-// One byte more than the longest sheet: a longer input is refused by its length.
-const ROOM: usize = MAX_BYTES + 1;
 
 // Prints the text of a sheet.
 fn print(sheet: &[u8]) {
@@ -23,7 +20,7 @@ fn print(sheet: &[u8]) {
 }
 
 fn main() {
-    let mut sheet = [0u8; ROOM];
+    let mut sheet = [0u8; READ_BYTES];
     match read_input(&mut sheet) {
         Input::Failed => {
             io::write_all(STDERR_FILENO, b"livelist: standard input cannot be read\n");

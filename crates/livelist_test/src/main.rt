@@ -3,26 +3,23 @@
 ghost use Prim.Native.Nat.{_+_, _≤_};
 ghost use lib.ListN.{length};
 ghost use Rattle.base.specs.Sizes.{maxBytes};
-use base::MAX_BYTES;
+use base::READ_BYTES;
 use base::width::u8_to_usize;
 use libc::STDIN_FILENO;
 use libc::STDOUT_FILENO;
-use listing::livelist::TEXT_BYTES;
-use listing::livelist::put_livelist;
-
-// As livelist reads: one byte more than the longest sheet.
-const ROOM: usize = MAX_BYTES + 1;
+use live_text::livelist::TEXT_BYTES;
+use live_text::livelist::put_livelist;
 
 // The most sheets of a run.
-const MOST: usize = 64;
+const MAX_SHEETS: usize = 64;
 
 // The number in two bytes, at most what there is room for.
 fn length_in(low: u8, high: u8) -> usize
     ensures { λ r. ⌜ r ≤ maxBytes + 1 ⌝ }
 {
     let n = u8_to_usize(low) + 256 * u8_to_usize(high);
-    if ROOM < n {
-        return ROOM;
+    if READ_BYTES < n {
+        return READ_BYTES;
     }
     n
 }
@@ -50,7 +47,7 @@ fn show_front(room: &mut [u8], long: usize)
 // The next sheet; false where the input has ended.
 fn next() -> bool {
     let mut head = [0u8; 4];
-    let mut sheet = [0u8; ROOM];
+    let mut sheet = [0u8; READ_BYTES];
     let got = io::read_full(STDIN_FILENO, &mut head);
     if got < 4 {
         return false;
@@ -61,7 +58,7 @@ fn next() -> bool {
 }
 
 fn main() {
-    let mut left = MOST;
+    let mut left = MAX_SHEETS;
     while 0 < left {
         if !next() {
             return;

@@ -11,7 +11,7 @@ use Rattle.dataflow_domains.specs.MaskLaws.{sub-eq, sub-trans, sub-antisymm, su
 use Rattle.dataflow_analysis.specs.Worklist.{State, setAt, Met, begin, run}
 use Rattle.dataflow_analysis.specs.QueueLaws.{run-longer}
 use Rattle.dataflow_analysis.specs.Lattice.{masks}
-use Rattle.dataflow_analysis.specs.MaskListLaws.{Graph, Narrow, Source, Best, best}
+use Rattle.dataflow_analysis.specs.MaskListLaws.{MaskGraph, MaskNarrow, Source, MaskBest, best}
 use Rattle.livevar_analysis.specs.Live.{Obeys, Post, execute}
 use Rattle.stackless_bytecode.specs.declared.Bytecode.{Bytecode}
 use Rattle.base.specs.Lists.{place}
@@ -73,11 +73,11 @@ module _ (code : List Bytecode) (sound : Sound code) (l : ℕ) (small : (r : Byt
       (subst (λ (x : List ℕ). List·Memᴰ (suc (suc (place o′ (keyed code)))) x) (sym (next-is j h ∙ ap (λ (x : ℕ). map (keyOf (keyed code)) (successors code (upperOf code x))) (key-offset o s))) (map-in (keyOf (keyed code)) (successors code (upperOf code o)) i)))
 
   -- what a key leads to: the exit to every block, any other to where its edges come from
-  data Leads (k p : ℕ) : Type 0 where
-    exit : k ≡ 1 → 2 ≤ p → p < 2 + length (keyed code) → Leads k p
-    edge : From k p → Leads k p
+  data LeadsTo (k p : ℕ) : Type 0 where
+    exit : k ≡ 1 → 2 ≤ p → p < 2 + length (keyed code) → LeadsTo k p
+    edge : From k p → LeadsTo k p
 
-  leads-is : (k p : ℕ) → List·Memᴰ p (leadsTo (nextsOf code (keyed code)) k) → Leads k p
+  leads-is : (k p : ℕ) → List·Memᴰ p (leadsTo (nextsOf code (keyed code)) k) → LeadsTo k p
   unfolding leadsTo
   leads-is zero p m = edge (from-edge 0 p (in-preds (nextsOf code (keyed code)) 0 0 p m))
   leads-is (suc zero) p m = let r = in-tab (length (nextsOf code (keyed code)) - 2) 2 p m in exit refl (r .0) (omega (arith, r .1, nexts-length))
@@ -100,7 +100,7 @@ module _ (code : List Bytecode) (sound : Sound code) (l : ℕ) (small : (r : Byt
 
   -- ---- it is a graph of the work list
 
-  leads-lt : (k p : ℕ) → Leads k p → p < 2 + length (keyed code)
+  leads-lt : (k p : ℕ) → LeadsTo k p → p < 2 + length (keyed code)
   leads-lt k p (exit e a b) = b
   leads-lt k p (edge (entrance e q)) = omega arith
   leads-lt k p (edge (block o o′ s e i q)) = unfold keyOf in omega (arith, place-lt o (keyed code) (keyed-in code o s))
@@ -111,14 +111,14 @@ module _ (code : List Bytecode) (sound : Sound code) (l : ℕ) (small : (r : Byt
   out-mono (suc zero) a b p = p
   out-mono (suc (suc k)) a b p = before-mono (restOf code (getD (keyed code) k 0)) a b p
 
-  pub graph : Graph (leadsTo (nextsOf code (keyed code))) (outOf code (keyed code)) (2 + length (keyed code))
+  pub graph : MaskGraph (leadsTo (nextsOf code (keyed code))) (outOf code (keyed code)) (2 + length (keyed code))
   graph = record { inside = λ k. record { each = λ p m. leads-lt k p (leads-is k p m) }; mono = out-mono }
 
-  pub narrow : Narrow (leadsTo (nextsOf code (keyed code))) (outOf code (keyed code)) 1 l
+  pub narrow : MaskNarrow (leadsTo (nextsOf code (keyed code))) (outOf code (keyed code)) 1 l
   unfolding outOf restOf
   narrow = record { apart = λ k m. apart k (leads-is k 1 m); small = out-lt }
     where
-      apart : (k : ℕ) → Leads k 1 → ⊥
+      apart : (k : ℕ) → LeadsTo k 1 → ⊥
       apart k (exit e a b) = omega arith
       apart k (edge (entrance e q)) = omega arith
       apart k (edge (block o o′ s e i q)) = unfold keyOf in omega arith
@@ -140,7 +140,7 @@ module _ (code : List Bytecode) (sound : Sound code) (l : ℕ) (small : (r : Byt
       let b = length (keyed code) in
       omega (arith, add-mul 2 b l, add-mul b 1 (l + 1), mul-add b l 1, mul-one b, one-mul (l + 1))
 
-  is-best : Best (leadsTo (nextsOf code (keyed code))) (outOf code (keyed code)) (2 + length (keyed code)) 1 l st
+  is-best : MaskBest (leadsTo (nextsOf code (keyed code))) (outOf code (keyed code)) (2 + length (keyed code)) 1 l st
   unfolding st analyzeFunction
   is-best = best (leadsTo (nextsOf code (keyed code))) (outOf code (keyed code)) (2 + length (keyed code)) 1 l graph narrow (omega arith) (takenBound (length (keyed code)) l) (omega (arith, bound-fits))
 
@@ -171,7 +171,7 @@ module _ (code : List Bytecode) (sound : Sound code) (l : ℕ) (small : (r : Byt
   unfolding tail head
   tail-from o i s b = go (is-best .sourced .each (keyOf (keyed code) o) i b)
     where
-      found : (k : ℕ) → Leads k (keyOf (keyed code) o) → bit (outOf code (keyed code) k (setAt st k)) i ≡ 1 → bit (unions (map head (successors code (upperOf code o)))) i ≡ 1
+      found : (k : ℕ) → LeadsTo k (keyOf (keyed code) o) → bit (outOf code (keyed code) k (setAt st k)) i ≡ 1 → bit (unions (map head (successors code (upperOf code o)))) i ≡ 1
       found k (exit e x y) g =
           let none : setAt st k ≡ 0 = ap (setAt st) e ∙ is-best .bare in
           let same = ap (λ (x : ℕ). outOf code (keyed code) x (setAt st k)) e ∙ out-exit (setAt st k) ∙ none in
@@ -305,7 +305,7 @@ module _ (code : List Bytecode) (sound : Sound code) (l : ℕ) (small : (r : Byt
         sub-trans (cand-out k o′ q (start-of o o′ s i))
         (sub-trans (post .after (upperOf code o) o′ (upper-lt code o (s .inside)) i) (sub-eq (sym (ap cand e ∙ cand-key o s))))
 
-    cand-leads : (k p : ℕ) → Leads k p → Sub (outOf code (keyed code) k (cand k)) (cand p)
+    cand-leads : (k p : ℕ) → LeadsTo k p → Sub (outOf code (keyed code) k (cand k)) (cand p)
     cand-leads k p (exit e x y) =
         subst (λ (z : ℕ). Sub z (cand p)) (sym (ap (λ (z : ℕ). outOf code (keyed code) z (cand z)) e ∙ out-exit (cand 1) ∙ cand-one)) (sub-empty (cand p))
       where

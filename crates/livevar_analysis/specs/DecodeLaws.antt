@@ -1,6 +1,6 @@
 -- A decoded rule does what the live rule of its instruction says, and so does each rule in the slice. Assumes nothing.
-use mathlib.Core.Path.{_≡_, refl, sym, ap, _∙_, subst}
-use mathlib.Core.Logic.{_⊎_, inl, inr, _≢_, ⊎-elim}
+use mathlib.Core.Path.{_≡_, refl, sym, ap, _∙_}
+use mathlib.Core.Logic.{_⊎_, inl, inr, ⊎-elim}
 use mathlib.Core.Bool.{Bool, true, false, cond, not}
 use mathlib.Core.List.{List, [], _∷_, _++_}
 use Prim.Native.Nat.{ℕ, _+_, _*_, _^_, _≤_, _<_}
@@ -10,17 +10,16 @@ use native.Mathlib.Omega.{arith}
 use borrow.Author.Tests.{eq-eqb, ne-eqb}
 use lib.Dec.{eqb}
 use lib.ListN.{getD, length, take}
-use lib.Seq.{take-suc, getD-set-same, getD-set-other}
+use lib.Seq.{take-suc}
 use Rattle.base.specs.Sizes.{setWords}
 use Rattle.base.specs.ListLaws.{by-test, by-eq}
 use Rattle.dataflow_domains.specs.Mask.{bit, holds, union, minus, setOf}
 use Rattle.dataflow_domains.specs.MaskLaws.{ext, bit-union, bit-minus, bit-empty, bit-self, bit-other, bit-lt, minus-none}
 use Rattle.dataflow_domains.specs.HoldsLaws.{holds-true, holds-false}
-use Rattle.dataflow_domains.specs.Sets.{setAt, setsOf, Stored}
-use Rattle.dataflow_domains.specs.SliceLaws.{masks-length}
-use Rattle.dataflow_analysis.specs.ReceiptLaws.{at-node}
+use Rattle.dataflow_domains.specs.Sets.{Stored}
+use Rattle.dataflow_domains.specs.StoredLaws.{stored-here, stored-other}
 use Rattle.stackless_bytecode.specs.declared.Bytecode.{Bytecode}
-use Rattle.stackless_bytecode.specs.Kinds.{at, dstsOf, srcsOf, isFlagged}
+use Rattle.stackless_bytecode.specs.Kinds.{Assign, Call, Ret, Load, Branch, Abort, Prop, at, dstsOf, srcsOf, isFlagged}
 use Rattle.livevar_analysis.specs.Live.{assigned, called, execute}
 use Rattle.livevar_analysis.specs.RuleLaws.{assign-rule, load-rule}
 use Rattle.livevar_analysis.specs.Rules.{applied, ruleSets, ruleAt, Ruled, RuleRoom, RulePut}
@@ -79,65 +78,48 @@ applied-sources ss m = ap (union ss) (minus-none m)
 -- ---- each arm
 
 -- the abort local is asked for only of a flagged Call
-pub flagged : (r : Bytecode) → r .kind ≡ 1 → r .flag ≡ 1 → isFlagged r ≡ true
+pub flag-asked : (r : Bytecode) → r .kind ≡ Call → r .flag ≡ 1 → isFlagged r ≡ true
 unfolding isFlagged
-flagged r k f = rw (k, f)
+flag-asked r k f = rw (k, f)
 
 module _ (r : Bytecode) (kills gens m : ℕ) where
-  pub decoded-assign : r .kind ≡ 0 → kills ≡ 2 ^ getD (r .dsts) 0 0 → gens ≡ setOf (take (r .nsrc) (r .srcs)) → applied true kills gens m ≡ execute r m
+  pub decoded-assign : r .kind ≡ Assign → kills ≡ 2 ^ getD (r .dsts) 0 0 → gens ≡ setOf (take (r .nsrc) (r .srcs)) → applied true kills gens m ≡ execute r m
   unfolding srcsOf
   decoded-assign k e f = rw (e, f) (applied-assign (getD (r .dsts) 0 0) (setOf (srcsOf r)) m ∙ sym (assign-rule r m k))
 
-  pub decoded-load : r .kind ≡ 3 → kills ≡ 2 ^ getD (r .dsts) 0 0 → gens ≡ 0 → applied false kills gens m ≡ execute r m
+  pub decoded-load : r .kind ≡ Load → kills ≡ 2 ^ getD (r .dsts) 0 0 → gens ≡ 0 → applied false kills gens m ≡ execute r m
   decoded-load k e f = rw (e, f) (applied-load (2 ^ getD (r .dsts) 0 0) m ∙ sym (load-rule r m k))
 
-  call-is : r .kind ≡ 1 → execute r m ≡ called (setOf (take (r .ndst) (r .dsts))) (setOf (take (r .nsrc) (r .srcs))) (cond (eqb (r .flag) 1) (2 ^ r .abort) 0) m
+  call-is : r .kind ≡ Call → execute r m ≡ called (setOf (take (r .ndst) (r .dsts))) (setOf (take (r .nsrc) (r .srcs))) (cond (eqb (r .flag) 1) (2 ^ r .abort) 0) m
   unfolding execute dstsOf srcsOf
   call-is k = rw k
 
-  pub decoded-call : r .kind ≡ 1 → (ds ss gone : ℕ) → ds ≡ setOf (take (r .ndst) (r .dsts)) → ss ≡ setOf (take (r .nsrc) (r .srcs)) → gone ≡ cond (eqb (r .flag) 1) (2 ^ r .abort) 0
+  pub decoded-call : r .kind ≡ Call → (ds ss gone : ℕ) → ds ≡ setOf (take (r .ndst) (r .dsts)) → ss ≡ setOf (take (r .nsrc) (r .srcs)) → gone ≡ cond (eqb (r .flag) 1) (2 ^ r .abort) 0
       → kills ≡ union ds gone → gens ≡ minus ss gone → applied false kills gens m ≡ execute r m
   decoded-call k ds ss gone p q g e f = rw (e, f) (applied-call ds ss gone m ∙ rw (p, q, g) (sym (call-is k)))
 
   -- Ret, Branch, Abort, Prop
-  sources-is : (r .kind ≡ 2) ⊎ ((r .kind ≡ 4) ⊎ ((r .kind ≡ 7) ⊎ (r .kind ≡ 11))) → execute r m ≡ union (setOf (take (r .nsrc) (r .srcs))) m
+  sources-is : (r .kind ≡ Ret) ⊎ ((r .kind ≡ Branch) ⊎ ((r .kind ≡ Abort) ⊎ (r .kind ≡ Prop))) → execute r m ≡ union (setOf (take (r .nsrc) (r .srcs))) m
   unfolding execute srcsOf
   sources-is k = ⊎-elim (λ e. rw e) (⊎-elim (λ e. rw e) (⊎-elim (λ e. rw e) (λ e. rw e))) k
 
-  pub decoded-sources : (r .kind ≡ 2) ⊎ ((r .kind ≡ 4) ⊎ ((r .kind ≡ 7) ⊎ (r .kind ≡ 11))) → kills ≡ 0 → gens ≡ setOf (take (r .nsrc) (r .srcs))
+  pub decoded-sources : (r .kind ≡ Ret) ⊎ ((r .kind ≡ Branch) ⊎ ((r .kind ≡ Abort) ⊎ (r .kind ≡ Prop))) → kills ≡ 0 → gens ≡ setOf (take (r .nsrc) (r .srcs))
       → applied false kills gens m ≡ execute r m
   decoded-sources k e f = rw (e, f) (applied-sources (setOf (take (r .nsrc) (r .srcs))) m ∙ sym (sources-is k))
 
   -- no kind that the rules name
-  pub none-is : (r .kind ≡ 0 → ⊥) → (r .kind ≡ 1 → ⊥) → ((r .kind ≡ 2) ⊎ ((r .kind ≡ 4) ⊎ ((r .kind ≡ 7) ⊎ (r .kind ≡ 11))) → ⊥) → (r .kind ≡ 3 → ⊥) → execute r m ≡ m
+  pub none-is : (r .kind ≡ Assign → ⊥) → (r .kind ≡ Call → ⊥) → ((r .kind ≡ Ret) ⊎ ((r .kind ≡ Branch) ⊎ ((r .kind ≡ Abort) ⊎ (r .kind ≡ Prop))) → ⊥) → (r .kind ≡ Load → ⊥) → execute r m ≡ m
   unfolding execute
   none-is a b s l =
-      let two : eqb (r .kind) 2 ≡ false = ne-eqb _ 2 (λ e. s (inl e)) in
-      let four : eqb (r .kind) 4 ≡ false = ne-eqb _ 4 (λ e. s (inr (inl e))) in
-      let seven : eqb (r .kind) 7 ≡ false = ne-eqb _ 7 (λ e. s (inr (inr (inl e)))) in
-      let eleven : eqb (r .kind) 11 ≡ false = ne-eqb _ 11 (λ e. s (inr (inr (inr e)))) in
+      let two : eqb (r .kind) Ret ≡ false = ne-eqb _ 2 (λ e. s (inl e)) in
+      let four : eqb (r .kind) Branch ≡ false = ne-eqb _ 4 (λ e. s (inr (inl e))) in
+      let seven : eqb (r .kind) Abort ≡ false = ne-eqb _ 7 (λ e. s (inr (inr (inl e)))) in
+      let eleven : eqb (r .kind) Prop ≡ false = ne-eqb _ 11 (λ e. s (inr (inr (inr e)))) in
       rw (ne-eqb _ 0 a, ne-eqb _ 1 b, ne-eqb _ 3 l, two, four, seven, eleven)
 
 -- nothing goes out, nothing comes in
 pub applied-none : (kills gens m : ℕ) → kills ≡ 0 → gens ≡ 0 → applied false kills gens m ≡ m
 applied-none kills gens m e f = rw (e, f) (applied-load 0 m ∙ minus-none m)
-
--- ---- a set that is stored in a slice
-
-pub sets-length : (n : ℕ) (words : List ℕ) → length (setsOf n words) ≡ n
-unfolding setsOf
-sets-length n words = masks-length 64 setWords n words
-
-module _ (old : List ℕ) (i m : ℕ) (new : List ℕ) (stored : Stored old i m new) (n : ℕ) (inside : i < n) (fits : n * setWords ≤ length old) where
-  stored-here : setAt new i ≡ m
-  stored-here =
-      sym (at-node n new i inside) ∙ ap (λ (l : List ℕ). getD l i 0) (stored .sets n inside fits)
-      ∙ getD-set-same (setsOf n old) i m 0 (subst (λ (x : ℕ). i < x) (sym (sets-length n old)) inside)
-
-  stored-other : (j : ℕ) → j < n → j ≢ i → setAt new j ≡ setAt old j
-  stored-other j h g =
-      sym (at-node n new j h) ∙ ap (λ (l : List ℕ). getD l j 0) (stored .sets n inside fits)
-      ∙ getD-set-other (setsOf n old) i j m 0 g ∙ at-node n old j h
 
 -- a rule is stored as three sets
 pub rule-put : (rules : List ℕ) (k kill gen flag : ℕ) (assign : Bool) (rules₁ rules₂ rules₃ : List ℕ) → RuleRoom (k + 1) rules → not (eqb flag 0) ≡ assign

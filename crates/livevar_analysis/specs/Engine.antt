@@ -6,7 +6,7 @@ use Prim.Native.Nat.{ℕ, _+_, _-_, _*_, _≤_, _<_}
 use lib.ListN.{getD, length, take}
 use Rattle.base.specs.Sizes.{setWords, maxLocals, maxInstructions, maxNumber, maxTaken}
 use Rattle.base.specs.Lists.{over}
-use Rattle.dataflow_domains.specs.Sets.{setAt, setsOf}
+use Rattle.dataflow_domains.specs.Sets.{storedSet, setsOf}
 use Rattle.dataflow_analysis.specs.declared.Cursor.{Cursor}
 use Rattle.dataflow_analysis.specs.Worklist.{State, begin, news, receive}
 use Rattle.dataflow_analysis.specs.Lattice.{masks}
@@ -30,7 +30,7 @@ pub record Analyzable (code : List Bytecode) (locals : ℕ) : Type 0 where
   pub sources : (r : Bytecode) → List·Memᴰ r code → (x : ℕ) → List·Memᴰ x (srcsOf r) → x < locals
 
 -- the rules, edges and bounds of the code
-pub record Tables (code : List Bytecode) (rules lows ups firsts edges : List ℕ) : Type 0 where
+pub record RunTables (code : List Bytecode) (rules lows ups firsts edges : List ℕ) : Type 0 where
   pub ruled : Ruled code rules
   pub room : RuleRoom (length code) rules
   pub bounds : Bounds code lows ups
@@ -68,7 +68,7 @@ pub record CanOut (rules lows ups sets : List ℕ) (k : ℕ) : Type 0 where
 
 -- what k hands on, and to whom
 abbrev pub given : List Bytecode → List ℕ → ℕ → ℕ
-given code sets k = outOf code (keyed code) k (setAt sets k)
+given code sets k = outOf code (keyed code) k (storedSet sets k)
 
 abbrev pub leads : List Bytecode → ℕ → List ℕ
 leads code k = leadsTo (nextsOf code (keyed code)) k
@@ -87,7 +87,7 @@ pub record CanHandKey (firsts edges sets met q : List ℕ) (c : Cursor) (k m : �
 -- the slices have the tables of the code, and the state in which key 1 waits
 pub record Begun (code : List Bytecode) (locals : ℕ) (rules lows ups firsts edges sets met q : List ℕ) (c : Cursor) : Type 0 where
   pub analyzable : Analyzable code locals
-  pub tables : Tables code rules lows ups firsts edges
+  pub tables : RunTables code rules lows ups firsts edges
   pub nodes : length met ≡ 2 + length (keyed code)
   pub sets-fit : length met * setWords ≤ length sets
   pub list-long : length q ≡ maxTaken
@@ -101,9 +101,9 @@ pub record CanRun (rules lows ups firsts edges sets met q : List ℕ) (c : Curso
   pub begun : Begun code locals rules lows ups firsts edges sets met q c
 
 -- the slices have the tables of the code; a set and a flag for each node, all 0; and a list as long as the taken bound
-pub record Input (code : List Bytecode) (locals : ℕ) (rules lows ups firsts edges sets met q : List ℕ) : Type 0 where
+pub record RunInput (code : List Bytecode) (locals : ℕ) (rules lows ups firsts edges sets met q : List ℕ) : Type 0 where
   pub analyzable : Analyzable code locals
-  pub tables : Tables code rules lows ups firsts edges
+  pub tables : RunTables code rules lows ups firsts edges
   pub nodes : length met ≡ 2 + length (keyed code)
   pub sets-fit : length met * setWords ≤ length sets
   pub list-long : length q ≡ maxTaken
@@ -114,12 +114,12 @@ pub record Input (code : List Bytecode) (locals : ℕ) (rules lows ups firsts ed
 pub record CanStart (rules lows ups firsts edges sets met q : List ℕ) : Type 0 where
   pub code : List Bytecode
   pub locals : ℕ
-  pub input : Input code locals rules lows ups firsts edges sets met q
+  pub input : RunInput code locals rules lows ups firsts edges sets met q
 
 -- the tables of the code's m blocks, and a set for each key, all 0
 pub record SolveInput (code : List Bytecode) (locals : ℕ) (rules lows ups firsts edges : List ℕ) (m : ℕ) (sets : List ℕ) : Type 0 where
   pub analyzable : Analyzable code locals
-  pub tables : Tables code rules lows ups firsts edges
+  pub tables : RunTables code rules lows ups firsts edges
   pub count : m ≡ length (keyed code)
   pub sets-fit : (m + 2) * setWords ≤ length sets
   pub sets-blank : (k : ℕ) → getD sets k 0 ≡ 0

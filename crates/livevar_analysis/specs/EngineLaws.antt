@@ -13,11 +13,11 @@ use Rattle.base.specs.Sizes.{setWords, maxNumber}
 use Rattle.base.specs.Lists.{over, tab}
 use Rattle.base.specs.ListLaws.{over-append, getD-in}
 use Rattle.dataflow_domains.specs.Mask.{union, minus}
-use Rattle.dataflow_domains.specs.Sets.{setAt, setsOf}
+use Rattle.dataflow_domains.specs.Sets.{storedSet, setsOf}
 use Rattle.dataflow_analysis.specs.declared.Cursor.{Cursor}
 use Rattle.dataflow_analysis.specs.Worklist.{State, news, receive}
 use Rattle.dataflow_analysis.specs.Lattice.{masks}
-use Rattle.dataflow_analysis.specs.Queue.{listOf, stateOf, newsAt, Received}
+use Rattle.dataflow_analysis.specs.Queue.{waiting, stateOf, newsAt, Received}
 use Rattle.dataflow_analysis.specs.QueueLaws.{list-length}
 use Rattle.dataflow_analysis.specs.ReceiptLaws.{news-at}
 use Rattle.stackless_bytecode.specs.declared.Bytecode.{Bytecode}
@@ -31,18 +31,18 @@ use Rattle.stackless_control_flow_graph.specs.BlockLaws.{upper-lt, in-keyed}
 use Rattle.livevar_analysis.specs.Live.{execute}
 use Rattle.livevar_analysis.specs.Analysis.{executeAll, restOf, outOf}
 use Rattle.livevar_analysis.specs.Rules.{applied, ruleSets, ruleAt}
-use Rattle.livevar_analysis.specs.Engine.{Tables, stateAt, CanHand, HandedOn, CanOut, given, leads, CanHandKey}
+use Rattle.livevar_analysis.specs.Engine.{RunTables, stateAt, CanHand, HandedOn, CanOut, given, leads, CanHandKey}
 
 -- ---- one rule
 
-module _ (rules : List ℕ) (k m kill rest flag : ℕ) (is : kill ≡ setAt rules (ruleSets * k)) (left : rest ≡ minus m kill) (flag-is : flag ≡ setAt rules (ruleSets * k + 2)) where
+module _ (rules : List ℕ) (k m kill rest flag : ℕ) (is : kill ≡ storedSet rules (ruleSets * k)) (left : rest ≡ minus m kill) (flag-is : flag ≡ storedSet rules (ruleSets * k + 2)) where
   -- an Assign whose destination is not in the set
   pub rule-kept : not (eqb flag 0) ≡ true → eqb rest m ≡ true → m ≡ ruleAt rules k m
   unfolding applied
   rule-kept f e = sym (rw (← flag-is, f, ← is, ← left, e))
 
   -- any other
-  pub rule-done : (gen r : ℕ) → (not (eqb flag 0) ≡ false) ⊎ (eqb rest m ≡ false) → gen ≡ setAt rules (ruleSets * k + 1) → r ≡ union gen rest → r ≡ ruleAt rules k m
+  pub rule-done : (gen r : ℕ) → (not (eqb flag 0) ≡ false) ⊎ (eqb rest m ≡ false) → gen ≡ storedSet rules (ruleSets * k + 1) → r ≡ union gen rest → r ≡ ruleAt rules k m
   rule-done gen r why g e = e ∙ sym (done why)
     where
       either : (b : Bool) → cond (b && false) m (union gen rest) ≡ union gen rest
@@ -91,7 +91,7 @@ at-taken : (n : ℕ) (sets met q : List ℕ) (c : Cursor) → stateAt n sets met
 unfolding stateOf
 at-taken n sets met q c = refl
 
-at-list : (n : ℕ) (sets met q : List ℕ) (c : Cursor) → stateAt n sets met q c .list ≡ listOf q c
+at-list : (n : ℕ) (sets met q : List ℕ) (c : Cursor) → stateAt n sets met q c .list ≡ waiting q c
 unfolding stateOf
 at-list n sets met q c = refl
 
@@ -114,7 +114,7 @@ module _ (n : ℕ) (sets₀ met₀ q₀ : List ℕ) (c₀ : Cursor) (ps : List �
       where
         place : p < n → newsAt sets met p m ≡ true → c .head + c .len < length q
         place inside t =
-            let size : length (listOf q c) ≡ c .len = list-length q c (omega (arith, h .list-fits, h .q-kept)) in
+            let size : length (waiting q c) ≡ c .len = list-length q c (omega (arith, h .list-fits, h .q-kept)) in
             let room : stateAt n sets met q c .taken + length (stateAt n sets met q c .list) < length q₀ =
             subst (λ (s : State masks). news m s (getD ps i 0) ≡ true → s .taken + length (s .list) < length q₀) (sym (h .state)) (can .room i more)
             (ap (news m (stateAt n sets met q c)) (sym e) ∙ news-at sets met q c p m n (c .head) inside ∙ t) in
@@ -200,7 +200,7 @@ leads-all code n k e one =
 pub record CanStep (rules lows ups firsts edges sets met q : List ℕ) (c : Cursor) (k : ℕ) : Type 0 where
   pub code : List Bytecode
   pub sound : Sound code
-  pub tables : Tables code rules lows ups firsts edges
+  pub tables : RunTables code rules lows ups firsts edges
   pub nodes : length met ≡ 2 + length (keyed code)
   pub few : length met ≤ maxNumber + 1
   pub inside : k < length met

@@ -18,7 +18,7 @@ use Rattle.dataflow_domains.specs.MaskLaws.{sub-at}
 use Rattle.stackless_bytecode.specs.declared.Bytecode.{Bytecode}
 use Rattle.stackless_bytecode.specs.Kinds.{at, fallsThrough}
 use Rattle.stackless_bytecode.specs.Successors.{successors}
-use Rattle.stackless_bytecode.specs.SuccessorLaws.{Next, named, on, in-succs}
+use Rattle.stackless_bytecode.specs.SuccessorLaws.{NextOffset, named, on, in-succs}
 use Rattle.stackless_bytecode.specs.Sound.{Sound}
 use Rattle.sheet.specs.Layout.{codeOf, localsOf}
 use Rattle.sheet.specs.Checks.{checkSheet}
@@ -36,7 +36,7 @@ use Rattle.livevar_analysis.specs.LiveCall.{beforeAt, afterAt, LeastLive
 succ-inside : (code : List Bytecode) → Sound code → (k o : ℕ) → k < length code → List·Memᴰ o (successors code k) → o < length code
 succ-inside code sound k o h i = go (in-succs code k o i)
   where
-    go : Next code k o → o < length code
+    go : NextOffset code k o → o < length code
     go (named l j e) = subst (λ (x : ℕ). x < length code) (sym e) (sound .named k l h j)
     go (on f e) =
         by-eq (suc k) (length code)

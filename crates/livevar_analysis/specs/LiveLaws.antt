@@ -11,7 +11,7 @@ use Rattle.dataflow_domains.specs.Mask.{bit, holds, union, minus, setOf, Sub}
 use Rattle.dataflow_domains.specs.MaskLaws.{bit-union, bit-minus, bit-other, sub-refl, union-lt, minus-lt, setOf-lt, union-mono, minus-mono}
 use Rattle.dataflow_domains.specs.HoldsLaws.{holds-true, holds-false}
 use Rattle.stackless_bytecode.specs.declared.Bytecode.{Bytecode}
-use Rattle.stackless_bytecode.specs.Kinds.{dstsOf, srcsOf}
+use Rattle.stackless_bytecode.specs.Kinds.{Assign, Call, Ret, Load, Branch, Abort, Prop, dstsOf, srcsOf}
 use Rattle.livevar_analysis.specs.Live.{assigned, called, execute}
 
 -- ---- one rule after the other
@@ -49,10 +49,10 @@ called-mono ds ss gone m n p = minus-mono gone (union-mono (sub-refl ss) (minus-
 pub transfer-mono : (r : Bytecode) (m n : ℕ) → Sub m n → Sub (execute r m) (execute r n)
 unfolding execute
 transfer-mono r m n p =
-    cond-mono (eqb (r .kind) 0) (assigned-mono (getD (r .dsts) 0 0) (setOf (srcsOf r)) m n p)
-    (cond-mono (eqb (r .kind) 1) (called-mono (setOf (dstsOf r)) (setOf (srcsOf r)) (cond (eqb (r .flag) 1) (2 ^ r .abort) 0) m n p)
-    (cond-mono (eqb (r .kind) 3) (minus-mono (2 ^ getD (r .dsts) 0 0) p)
-    (cond-mono (eqb (r .kind) 2 || eqb (r .kind) 4 || eqb (r .kind) 7 || eqb (r .kind) 11) (union-mono (sub-refl (setOf (srcsOf r))) p) p)))
+    cond-mono (eqb (r .kind) Assign) (assigned-mono (getD (r .dsts) 0 0) (setOf (srcsOf r)) m n p)
+    (cond-mono (eqb (r .kind) Call) (called-mono (setOf (dstsOf r)) (setOf (srcsOf r)) (cond (eqb (r .flag) 1) (2 ^ r .abort) 0) m n p)
+    (cond-mono (eqb (r .kind) Load) (minus-mono (2 ^ getD (r .dsts) 0 0) p)
+    (cond-mono (eqb (r .kind) Ret || eqb (r .kind) Branch || eqb (r .kind) Abort || eqb (r .kind) Prop) (union-mono (sub-refl (setOf (srcsOf r))) p) p)))
 
 -- ---- every rule keeps to the locals
 
@@ -64,7 +64,7 @@ pub transfer-lt : (l : ℕ) (r : Bytecode) (m : ℕ) → ((x : ℕ) → List·Me
 unfolding execute assigned called
 transfer-lt l r m h b =
     let ss : setOf (srcsOf r) < 2 ^ l = setOf-lt l (srcsOf r) h in
-    cond-lt l (eqb (r .kind) 0) (cond-lt l (holds m (getD (r .dsts) 0 0)) (union-lt l _ _ ss (minus-lt l m _ b)) b)
-    (cond-lt l (eqb (r .kind) 1) (minus-lt l _ _ (union-lt l _ _ ss (minus-lt l m _ b)))
-    (cond-lt l (eqb (r .kind) 3) (minus-lt l m _ b)
-    (cond-lt l (eqb (r .kind) 2 || eqb (r .kind) 4 || eqb (r .kind) 7 || eqb (r .kind) 11) (union-lt l _ _ ss b) b)))
+    cond-lt l (eqb (r .kind) Assign) (cond-lt l (holds m (getD (r .dsts) 0 0)) (union-lt l _ _ ss (minus-lt l m _ b)) b)
+    (cond-lt l (eqb (r .kind) Call) (minus-lt l _ _ (union-lt l _ _ ss (minus-lt l m _ b)))
+    (cond-lt l (eqb (r .kind) Load) (minus-lt l m _ b)
+    (cond-lt l (eqb (r .kind) Ret || eqb (r .kind) Branch || eqb (r .kind) Abort || eqb (r .kind) Prop) (union-lt l _ _ ss b) b)))

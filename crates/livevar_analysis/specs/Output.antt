@@ -8,7 +8,7 @@ use lib.ListN.{getD, length}
 use Rattle.base.specs.Sizes.{setBytes, setWords}
 use Rattle.base.specs.Lists.{tab}
 use Rattle.base.specs.Bytes.{bytesOf}
-use Rattle.dataflow_domains.specs.Sets.{setAt, setsOf}
+use Rattle.dataflow_domains.specs.Sets.{storedSet, setsOf}
 use Rattle.stackless_bytecode.specs.declared.Bytecode.{Bytecode}
 use Rattle.stackless_bytecode.specs.Sound.{Sound}
 use Rattle.stackless_control_flow_graph.specs.Blocks.{lowerOf, keyed, keyOf}
@@ -36,10 +36,10 @@ isEnd keys n k = eqb (k + 1) n || not (eqb (getD keys (k + 1) 0) (getD keys k 0)
 
 -- the set after instruction k: at a block's end the set of its key, else m
 unfoldable pub afterBy : List ℕ → List ℕ → ℕ → ℕ → ℕ → ℕ
-afterBy keys sets n k m = cond (isEnd keys n k) (setAt sets (getD keys k 0)) m
+afterBy keys sets n k m = cond (isEnd keys n k) (storedSet sets (getD keys k 0)) m
 
 -- n instructions have keys, and every key has a set
-pub record BlockRoom (n : ℕ) (keys sets : List ℕ) : Type 0 where
+pub record KeySets (n : ℕ) (keys sets : List ℕ) : Type 0 where
   pub keys-fit : n ≤ length keys
   pub sets-fit : (k : ℕ) → k < n → setWords * getD keys k 0 + setWords ≤ length sets
 

@@ -21,7 +21,7 @@ use Rattle.base.specs.WriteLaws.{part-behind}
 use Rattle.base.specs.ByteLaws.{number-bytes}
 use Rattle.base.specs.Refusals.{Accepted}
 use Rattle.dataflow_domains.specs.MaskLaws.{sub-refl, sub-lt, sub-full}
-use Rattle.dataflow_domains.specs.Sets.{setAt, setsOf}
+use Rattle.dataflow_domains.specs.Sets.{storedSet, setsOf}
 use Rattle.dataflow_domains.specs.ByteLaws.{bytes-length}
 use Rattle.dataflow_domains.specs.SliceLaws.{masks-at}
 use Rattle.stackless_bytecode.specs.declared.Bytecode.{Bytecode}
@@ -62,9 +62,9 @@ module _ (code : List Bytecode) (ms : List ℕ) where
   module _ (keys sets : List ℕ) (known : Blocked code ms keys sets) where
     -- at the end of a block
     after-end : (k m : ℕ) → k < length code → Last code k → isEnd keys (length code) k ≡ true → afterBy keys sets (length code) k m ≡ afterOf k
-    unfolding afterBy afterOf executeAll final setsOf setAt
+    unfolding afterBy afterOf executeAll final setsOf storedSet
     after-end k m h last e =
-        ap (λ (b : Bool). cond b (setAt sets (getD keys k 0)) m) e
+        ap (λ (b : Bool). cond b (storedSet sets (getD keys k 0)) m) e
         ∙ sym (masks-at 64 setWords (length ms) sets (getD keys k 0) (known .keys-in k h)) ∙ ap (λ (l : List ℕ). getD l (getD keys k 0) 0) (known .sets-are)
         ∙ ap (λ (x : ℕ). getD ms x 0) (known .keys-are .each k h)
         ∙ sym (ap (λ (rs : List Bytecode). executeAll rs (final k)) (behind-last code k h last))
@@ -73,7 +73,7 @@ module _ (code : List Bytecode) (ms : List ℕ) where
     after-mid : (k m : ℕ) → suc k < length code → starts code (suc k) ≡ false → m ≡ beforeOf (suc k) → isEnd keys (length code) k ≡ false → afterBy keys sets (length code) k m ≡ afterOf k
     unfolding afterBy beforeOf afterOf executeAll final
     after-mid k m h e q f =
-        ap (λ (b : Bool). cond b (setAt sets (getD keys k 0)) m) f ∙ q
+        ap (λ (b : Bool). cond b (storedSet sets (getD keys k 0)) m) f ∙ q
         ∙ sym (ap (λ (rs : List Bytecode). executeAll rs (final k)) (behind-mid code k h e ∙ rest-is code (suc k) h)
         ∙ ap (λ (x : ℕ). execute (at code (suc k)) (executeAll (behind code (suc k)) (getD ms (keyOf (keyed code) x) 0))) (sym (lower-next code k e)))
 

@@ -20,7 +20,7 @@ use Rattle.livevar_analysis.specs.Analysis.{analyzeFunction, analyze, li
 use Rattle.livevar_analysis.specs.Rules.{ruleSets, Ruled, RuleRoom}
 use Rattle.livevar_analysis.specs.Engine.{SolveInput, CanSolve, Solved}
 use Rattle.livevar_analysis.specs.InputLaws.{analyzable}
-use Rattle.livevar_analysis.specs.Output.{infosBy, BlockRoom, Blocked}
+use Rattle.livevar_analysis.specs.Output.{infosBy, KeySets, Blocked}
 use Rattle.livevar_analysis.specs.OutputLaws.{infos-live}
 use Rattle.livevar_analysis.specs.RunLaws.{keys-few}
 use Rattle.livevar_analysis.specs.Prepared.{LiveWritten}
@@ -84,7 +84,7 @@ module _ {s : List ℕ} {n : ℕ} {targets : List ℕ} (checked : CheckedSheet s
 
     -- ---- the sets after the run are written
 
-    pub can-write : (out : List ℕ) → pairBytes * length (codeOf s) ≤ length out → RuleRoom n rules × BlockRoom n keys sets × (pairBytes * n ≤ length out)
+    pub can-write : (out : List ℕ) → pairBytes * length (codeOf s) ≤ length out → RuleRoom n rules × KeySets n keys sets × (pairBytes * n ≤ length out)
     can-write out fits = (
       rule-room n rules few rules-long,
       record {

@@ -7,7 +7,7 @@ use lib.Dec.{eqb}
 use lib.ListN.{getD, length}
 use Rattle.base.specs.Sizes.{setWords, maxLocals, listPlaces}
 use Rattle.dataflow_domains.specs.Mask.{union, minus}
-use Rattle.dataflow_domains.specs.Sets.{setAt}
+use Rattle.dataflow_domains.specs.Sets.{storedSet}
 use Rattle.stackless_bytecode.specs.declared.Bytecode.{Bytecode}
 use Rattle.stackless_bytecode.specs.Kinds.{Assign, Load, at, isFlagged}
 use Rattle.livevar_analysis.specs.Live.{execute}
@@ -38,7 +38,7 @@ ruleSets = 3
 
 -- rule k of the slice, applied to m
 abbrev pub ruleAt : List ℕ → ℕ → ℕ → ℕ
-ruleAt rules k m = applied (not (eqb (setAt rules (ruleSets * k + 2)) 0)) (setAt rules (ruleSets * k)) (setAt rules (ruleSets * k + 1)) m
+ruleAt rules k m = applied (not (eqb (storedSet rules (ruleSets * k + 2)) 0)) (storedSet rules (ruleSets * k)) (storedSet rules (ruleSets * k + 1)) m
 
 -- the slice has the rule of each instruction
 pub record Ruled (code : List Bytecode) (rules : List ℕ) : Type 0 where
@@ -50,7 +50,7 @@ pub record RuleRoom (n : ℕ) (rules : List ℕ) : Type 0 where
 
 -- rule k of the slice is (kill, gen, assign) now, and those before it are as they were
 pub record RulePut (rules : List ℕ) (k kill gen : ℕ) (assign : Bool) (rules₁ : List ℕ) : Type 0 where
-  pub killed : setAt rules₁ (ruleSets * k) ≡ kill
-  pub genned : setAt rules₁ (ruleSets * k + 1) ≡ gen
-  pub flagged : not (eqb (setAt rules₁ (ruleSets * k + 2)) 0) ≡ assign
-  pub others : (i : ℕ) → i < ruleSets * k → setAt rules₁ i ≡ setAt rules i
+  pub killed : storedSet rules₁ (ruleSets * k) ≡ kill
+  pub genned : storedSet rules₁ (ruleSets * k + 1) ≡ gen
+  pub flagged : not (eqb (storedSet rules₁ (ruleSets * k + 2)) 0) ≡ assign
+  pub others : (i : ℕ) → i < ruleSets * k → storedSet rules₁ i ≡ storedSet rules i

@@ -15,16 +15,16 @@ use Rattle.base.specs.Lists.{over, keep}
 use Rattle.base.specs.JoinLaws.{by-lt}
 use Rattle.base.specs.ListLaws.{by-test, in-take, getD-in, copies-at}
 use Rattle.dataflow_domains.specs.MaskLaws.{sub-full, sub-lt}
-use Rattle.dataflow_domains.specs.Sets.{setAt, setsOf}
+use Rattle.dataflow_domains.specs.Sets.{storedSet, setsOf}
 use Rattle.dataflow_domains.specs.SliceLaws.{masks-zeros}
 use Rattle.dataflow_analysis.specs.declared.Cursor.{Cursor}
 use Rattle.dataflow_analysis.specs.Worklist.{State, begin, receive, news, popped, step, run}
 use Rattle.dataflow_analysis.specs.WorklistLaws as general
 use Rattle.dataflow_analysis.specs.Lattice.{masks}
 use Rattle.dataflow_analysis.specs.MaskListLaws.{mask-laws, mask-size, met-inside}
-use Rattle.dataflow_analysis.specs.Queue.{listOf, Queued, stateOf}
+use Rattle.dataflow_analysis.specs.Queue.{waiting, Queued, stateOf}
 use Rattle.dataflow_analysis.specs.QueueLaws.{list-none, Took, took-popped, run-more, run-done}
-use Rattle.dataflow_analysis.specs.ReceiptLaws.{at-node}
+use Rattle.dataflow_domains.specs.StoredLaws.{set-at}
 use Rattle.stackless_bytecode.specs.declared.Bytecode.{Bytecode}
 use Rattle.stackless_bytecode.specs.Sound.{Sound}
 use Rattle.stackless_control_flow_graph.specs.Blocks.{starts, lowers, blocksOf, keyed}
@@ -34,7 +34,7 @@ use Rattle.livevar_analysis.specs.Analysis.{outOf, analyzeFunction}
 use Rattle.livevar_analysis.specs.AnalysisLaws.{graph, narrow, bound-fits}
 use Rattle.stackless_control_flow_graph.specs.Graph.{Bounds, Edges}
 use Rattle.stackless_control_flow_graph.specs.FlowLaws.{keys-blocks}
-use Rattle.livevar_analysis.specs.Engine.{Analyzable, Tables, leads, given, stateAt, CanHand, HandedOn, CanOut, CanHandKey, Begun, CanRun, Input, SolveInput, Solved}
+use Rattle.livevar_analysis.specs.Engine.{Analyzable, RunTables, leads, given, stateAt, CanHand, HandedOn, CanOut, CanHandKey, Begun, CanRun, RunInput, SolveInput, Solved}
 use Rattle.livevar_analysis.specs.Rules.{Ruled}
 use Rattle.livevar_analysis.specs.EngineLaws.{CanStep, step-out, step-hands, handed-as}
 
@@ -69,7 +69,7 @@ module _ (code : List Bytecode) (locals : ℕ) (ok : Analyzable code locals) whe
   abbrev out : ℕ → ℕ → ℕ
   out = outOf code (keyed code)
 
-  whole : general.Graph mask-laws (leads code) (outOf code (keyed code)) (2 + length (keyed code))
+  whole : general.FlowGraph mask-laws (leads code) (outOf code (keyed code)) (2 + length (keyed code))
   whole = record { inside = graph code (ok .sound) locals small .inside }
 
   thin : general.Narrow mask-laws (leads code) (outOf code (keyed code)) 1 (2 ^ locals - 1)
@@ -121,31 +121,31 @@ module _ (code : List Bytecode) (locals : ℕ) (ok : Analyzable code locals) whe
 
   module _ (sets met q : List ℕ) (c next : Cursor) (k : ℕ) (took : Took q c k next) (fits : length met * setWords ≤ length sets) (nodes : length met ≡ n) (long : length q ≡ maxTaken)
       (within : next .head + next .len ≤ length q) (r : Runs code locals (stateAt n sets met q c)) where
-    waits : stateAt n sets met q c .list ≡ k ∷ listOf q next
+    waits : stateAt n sets met q c .list ≡ k ∷ waiting q next
     unfolding stateOf
     waits = took .queued
 
     pub key-inside : k < n
     key-inside =
         met-inside (leads code) out n (stateAt n sets met q c) (r .inv .ok) k
-        (general.met-first mask-laws (leads code) out n whole (stateAt n sets met q c) k (listOf q next) waits (r .inv .ok))
+        (general.met-first mask-laws (leads code) out n whole (stateAt n sets met q c) k (waiting q next) waits (r .inv .ok))
 
-    popped-is : stateAt n sets met q next ≡ popped (stateAt n sets met q c) (listOf q next)
+    popped-is : stateAt n sets met q next ≡ popped (stateAt n sets met q c) (waiting q next)
     popped-is =
         ap (stateOf (setsOf n sets) met q next) (took .next-head ∙ add-one (c .head)) ∙ took-popped (setsOf n sets) met q c next (c .head)
 
-    own-is : getD (stateAt n sets met q c .sets) k 0 ≡ setAt sets k
+    own-is : getD (stateAt n sets met q c .sets) k 0 ≡ storedSet sets k
     unfolding stateOf
-    own-is = at-node n sets k key-inside
+    own-is = set-at n sets k key-inside
 
     -- where p has news when the nodes of ps have received m, the list is not full
     abbrev Roomy : List ℕ → ℕ → ℕ → State masks → Type 0
     Roomy ps p m s = news m (over (receive m) s ps) p ≡ true → over (receive m) s ps .taken + length (over (receive m) s ps .list) < length q
 
     room-before : (i : ℕ) → i < length (leads code k)
-        → Roomy (take i (leads code k)) (getD (leads code k) i 0) (out k (getD (stateAt n sets met q c .sets) k 0)) (popped (stateAt n sets met q c) (listOf q next))
+        → Roomy (take i (leads code k)) (getD (leads code k) i 0) (out k (getD (stateAt n sets met q c .sets) k 0)) (popped (stateAt n sets met q c) (waiting q next))
     room-before i h e =
-        let few = general.hand-fits mask-laws (leads code) out (mask-size locals) n 1 whole thin (omega arith) (stateAt n sets met q c) k (listOf q next) waits (r .inv) (take i (leads code k)) (λ p m. in-take i (leads code k) m) (getD (leads code k) i 0) (getD-in (leads code k) i 0 h) e in
+        let few = general.hand-fits mask-laws (leads code) out (mask-size locals) n 1 whole thin (omega arith) (stateAt n sets met q c) k (waiting q next) waits (r .inv) (take i (leads code k)) (λ p m. in-take i (leads code k) m) (getD (leads code k) i 0) (getD-in (leads code k) i 0 h) e in
         omega (arith, below-bound _ few, bound-le, long)
 
     room : (i : ℕ) → i < length (leads code k) → Roomy (take i (leads code k)) (getD (leads code k) i 0) (given code sets k) (stateAt n sets met q next)
@@ -168,7 +168,7 @@ module _ (code : List Bytecode) (locals : ℕ) (ok : Analyzable code locals) whe
     unfolding step
     runs-turn sets₁ met₁ q₁ next₁ h =
         subst (Runs code locals) (sym (h .state ∙ ap₂ (λ (m : ℕ) (s : State masks). over (receive m) s (leads code k)) (ap (out k) (sym own-is)) popped-is))
-        (runs-step (stateAt n sets met q c) k (listOf q next) waits r)
+        (runs-step (stateAt n sets met q c) k (waiting q next) waits r)
 
 -- ---- the loop over the slices
 
@@ -217,7 +217,7 @@ module _ (rules lows ups firsts edges sets₀ met₀ q₀ : List ℕ) (c₀ : Cu
       held-out = step-out rules lows ups firsts edges sets met q next k held-asks
 
       module _ (m : ℕ) (out : (code : List Bytecode) → Sound code → Ruled code rules → Bounds code lows ups → k < 2 + length (keyed code) → m ≡ given code sets k) where
-        is-given : (code : List Bytecode) → Sound code → Tables code rules lows ups firsts edges → length met ≡ 2 + length (keyed code) → m ≡ given code sets k
+        is-given : (code : List Bytecode) → Sound code → RunTables code rules lows ups firsts edges → length met ≡ 2 + length (keyed code) → m ≡ given code sets k
         is-given code sound t nodes = out code sound (t .ruled) (t .bounds) (omega (arith, held-asks .inside))
 
         -- what `hand_key` requires
@@ -226,7 +226,7 @@ module _ (rules lows ups firsts edges sets₀ met₀ q₀ : List ℕ) (c₀ : Cu
 
         module _ (sets₁ met₁ q₁ : List ℕ) (next₁ : Cursor)
             (hand : (code : List Bytecode) → Edges code firsts edges → length met ≡ 2 + length (keyed code) → HandedOn (length met) sets met q next (leads code k) m sets₁ met₁ q₁ next₁) where
-          stepped : (code : List Bytecode) → Sound code → Tables code rules lows ups firsts edges → length met ≡ 2 + length (keyed code)
+          stepped : (code : List Bytecode) → Sound code → RunTables code rules lows ups firsts edges → length met ≡ 2 + length (keyed code)
               → HandedOn (length met) sets met q next (leads code k) (given code sets k) sets₁ met₁ q₁ next₁
           stepped code sound t nodes = handed-as (length met) sets met q next sets₁ met₁ q₁ next₁ refl (is-given code sound t nodes) (hand code (t .leads-are) nodes)
 
@@ -253,7 +253,7 @@ module _ (rules lows ups firsts edges sets₀ met₀ q₀ : List ℕ) (c₀ : Cu
                   (subst (λ (n : ℕ). HandedOn n sets met q next (leads code k) (given code sets k) sets₁ met₁ q₁ next₁) nodes (stepped code (b .analyzable .sound) (b .tables) nodes))
 
     -- the end: the list is empty
-    pub held-done : (sets met q : List ℕ) (c : Cursor) → Held sets met q c → listOf q c ≡ []
+    pub held-done : (sets met q : List ℕ) (c : Cursor) → Held sets met q c → waiting q c ≡ []
         → (code : List Bytecode) (locals : ℕ) → Begun code locals rules lows ups firsts edges sets₀ met₀ q₀ c₀ → Solved code locals (c .head) sets
     unfolding stateOf
     held-done sets met q c h e code locals b =
@@ -262,7 +262,7 @@ module _ (rules lows ups firsts edges sets₀ met₀ q₀ : List ℕ) (c₀ : Cu
 
 -- ---- the beginning: all is 0, and key 1 is met and waits
 
-module _ (code : List Bytecode) (locals : ℕ) (rules lows ups firsts edges sets met q : List ℕ) (input : Input code locals rules lows ups firsts edges sets met q)
+module _ (code : List Bytecode) (locals : ℕ) (rules lows ups firsts edges sets met q : List ℕ) (input : RunInput code locals rules lows ups firsts edges sets met q)
     (none c : Cursor) (q₁ : List ℕ) (first : none .head ≡ 0) (empty : none .len ≡ 0) (put : Queued q none 1 q₁ c) (long : length q₁ ≡ length q) where
   no-sets : setsOf (2 + length (keyed code)) sets ≡ replicate (2 + length (keyed code)) 0
   unfolding setsOf
@@ -276,7 +276,7 @@ module _ (code : List Bytecode) (locals : ℕ) (rules lows ups firsts edges sets
   state-begun : stateAt (2 + length (keyed code)) sets (set met 1 1) q₁ c ≡ begin (2 + length (keyed code)) 1
   unfolding stateOf begin
   state-begun =
-      let list : listOf q₁ c ≡ 1 ∷ [] = put .queued ∙ ap (λ (l : List ℕ). l ++ (1 ∷ [])) (list-none q none empty) in
+      let list : waiting q₁ c ≡ 1 ∷ [] = put .queued ∙ ap (λ (l : List ℕ). l ++ (1 ∷ [])) (list-none q none empty) in
       let start : c .head ≡ 0 = put .same-head ∙ first in
       rw (no-sets, none-met, list, start)
 
@@ -302,7 +302,7 @@ module _ {code : List Bytecode} {locals : ℕ} {rules lows ups firsts edges : Li
   pub few-nodes : m ≤ maxInstructions
   few-nodes = omega (arith, input .count, keys-few code (input .analyzable .sound), input .analyzable .few)
 
-  pub start-input : Input code locals rules lows ups firsts edges sets (take (m + 2 - 0) (drop 0 (replicate (maxInstructions + 2) 0))) (replicate maxTaken 0)
+  pub start-input : RunInput code locals rules lows ups firsts edges sets (take (m + 2 - 0) (drop 0 (replicate (maxInstructions + 2) 0))) (replicate maxTaken 0)
   start-input = record {
     analyzable = input .analyzable;
     tables = input .tables;

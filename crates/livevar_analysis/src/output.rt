@@ -8,8 +8,8 @@ ghost use Rattle.dataflow_domains.specs.Sets.{mask};
 ghost use Rattle.stackless_bytecode.specs.declared.Bytecode.{Bytecode};
 ghost use Rattle.livevar_analysis.specs.Analysis.{liveBytes};
 ghost use Rattle.livevar_analysis.specs.Rules.{Ruled, RuleRoom};
-ghost use Rattle.livevar_analysis.specs.Output.{infosBy, sideBytes, isEnd, afterBy, BlockRoom, Blocked};
-use crate::engine::apply;
+ghost use Rattle.livevar_analysis.specs.Output.{infosBy, sideBytes, isEnd, afterBy, KeySets, Blocked};
+use crate::execute::apply;
 use base::PAIR_BYTES;
 use base::SET_BYTES;
 use base::width::u16_to_usize;
@@ -28,7 +28,7 @@ fn ends(keys: &[u16], n: usize, k: usize) -> bool
 
 // The set after instruction k of n: at the end of a block that of the block's key, else m, the set before the next instruction.
 fn after_of(keys: &[u16], sets: &[u64], n: usize, k: usize, m: LiveVarState) -> LiveVarState
-    requires { ⌜ BlockRoom n (now keys) (now sets) × (k < n) ⌝ }
+    requires { ⌜ KeySets n (now keys) (now sets) × (k < n) ⌝ }
     ensures { λ r. ⌜ mask r ≡ afterBy (now (keys .entry)) (now (sets .entry)) n k (mask m) ⌝ }
 {
     if ends(keys, n, k) {
@@ -48,7 +48,7 @@ fn put_info(before: LiveVarState, after: LiveVarState, out: &mut [u8])
 
 // The sets of all n instructions: their rules, the key of each offset, and in `sets` the set after each block, by key.
 pub fn write_info(rules: &[u64], keys: &[u16], n: usize, sets: &[u64], out: &mut [u8])
-    requires { ⌜ RuleRoom n (now rules) × BlockRoom n (now keys) (now sets) × (pairBytes * n ≤ length (now out)) ⌝ }
+    requires { ⌜ RuleRoom n (now rules) × KeySets n (now keys) (now sets) × (pairBytes * n ≤ length (now out)) ⌝ }
     ensures { λ r. ⌜ ((code : List Bytecode) (ms : List ℕ) → n ≡ length code → Ruled code (now (rules .entry)) → Blocked code ms (now (keys .entry)) (now (sets .entry)) → now (out .exit) ≡ liveBytes (infosBy code ms) ++ drop (pairBytes * n) (now (out .entry))) ⌝ }
 {
     let mut m = LiveVarState::empty();

@@ -11,7 +11,7 @@ use lib.Seq.{drop-cons}
 use Rattle.base.specs.Refusals.{Accepted}
 use Rattle.base.specs.Lists.{gather}
 use Rattle.stackless_bytecode.specs.declared.Bytecode.{Bytecode}
-use Rattle.stackless_bytecode.specs.Kinds.{at, nop, labelOf}
+use Rattle.stackless_bytecode.specs.Kinds.{Label, at, nop, labelOf}
 use Rattle.sheet.specs.Layout.{countOf, codeOf, instructionAt}
 use Rattle.sheet.specs.Checks.{checkSheet}
 use Rattle.sheet.specs.CheckLaws.{code-length}
@@ -53,13 +53,13 @@ highest-start f code = omega arith
 abbrev pub attrOf : Bytecode → List ℕ
 attrOf r = r .attr ∷ []
 
-pub label-raised : (t x : ℕ) (r : Bytecode) → r .kind ≡ 6 → x ≡ max t (r .one) → x ≡ max t (highest (labelOf r))
+pub label-raised : (t x : ℕ) (r : Bytecode) → r .kind ≡ Label → x ≡ max t (r .one) → x ≡ max t (highest (labelOf r))
 unfolding labelOf highest
-label-raised t x r q e = e ∙ (omega arith) ∙ sym (ap (λ (b : Bool). max t (highest (cond b (r .one ∷ []) []))) (eq-eqb (r .kind) 6 q))
+label-raised t x r q e = e ∙ (omega arith) ∙ sym (ap (λ (b : Bool). max t (highest (cond b (r .one ∷ []) []))) (eq-eqb (r .kind) Label q))
 
-pub label-same : (t : ℕ) (r : Bytecode) → (r .kind ≡ 6 → ⊥) → t ≡ max t (highest (labelOf r))
+pub label-same : (t : ℕ) (r : Bytecode) → (r .kind ≡ Label → ⊥) → t ≡ max t (highest (labelOf r))
 unfolding labelOf highest
-label-same t r q = (omega arith) ∙ sym (ap (λ (b : Bool). max t (highest (cond b (r .one ∷ []) []))) (ne-eqb (r .kind) 6 q))
+label-same t r q = (omega arith) ∙ sym (ap (λ (b : Bool). max t (highest (cond b (r .one ∷ []) []))) (ne-eqb (r .kind) Label q))
 
 pub attr-raised : (t x : ℕ) (r : Bytecode) → x ≡ max t (r .attr) → x ≡ max t (highest (attrOf r))
 unfolding highest

@@ -17,7 +17,7 @@ use Rattle.dataflow_domains.specs.MaskLaws.{ext, bit-and, bit-minus, bit-lt}
 use Rattle.dataflow_domains.specs.Members.{members}
 use Rattle.dataflow_domains.specs.MemberLaws.{walk-end}
 use Rattle.stackless_bytecode.specs.declared.Bytecode.{Bytecode}
-use Rattle.stackless_bytecode.specs.Kinds.{at, branchDests}
+use Rattle.stackless_bytecode.specs.Kinds.{Branch, at, branchDests}
 use Rattle.stackless_bytecode.specs.KindLaws.{branch-names}
 use Rattle.stackless_bytecode.specs.Slots.{slotAt, noLabel}
 use Rattle.stackless_bytecode.specs.Successors.{labelOffset}
@@ -26,14 +26,13 @@ use Rattle.sheet.specs.CheckLaws.{code-sound}
 use Rattle.livevar_analysis.specs.Analysis.{LiveVarInfo, infosOf}
 use Rattle.livevar_transform.specs.Rewrite.{infoAt, targetOf, lostRefs}
 use Rattle.base.specs.JoinLaws.{by-lt}
-use Rattle.dataflow_domains.specs.Sets.{setAt, setsOf, Stored}
+use Rattle.dataflow_domains.specs.Sets.{storedSet, Stored}
 use Rattle.livevar_transform.specs.Plan.{Ready, sidesAt, fateOf, lostBy, EdgeRoom, BothLost, lostAt, Planned}
 use Rattle.sheet_checks.specs.NameLaws.{code-below}
 use Rattle.stackless_control_flow_graph.specs.CheckedSheetLaws.{accepted-shaped}
 use lib.Seq.{getD-set-same, getD-set-other}
-use mathlib.Core.Logic.{_≢_}
-use Rattle.dataflow_domains.specs.SliceLaws.{masks-length, masks-at}
-use Rattle.livevar_transform.specs.PlanLaws.{sides-are, size, here, long, inside, room-at}
+use Rattle.dataflow_domains.specs.StoredLaws.{stored-here, stored-other}
+use Rattle.livevar_transform.specs.PlanLaws.{sides-are, size, here, long, room-at}
 
 -- ---- lost references
 
@@ -44,7 +43,7 @@ pub common-by : (a b m c : ℕ) → m ≡ minus a b → c ≡ minus a m → c �
 common-by a b m c e f = f ∙ ap (minus a) e ∙ common-is a b
 
 -- the label of an edge: then for an even number, else for an odd one
-target-slot : (code : List Bytecode) (e : ℕ) → at code (e / 2) .kind ≡ 4 → slotAt code e ≡ targetOf code e
+target-slot : (code : List Bytecode) (e : ℕ) → at code (e / 2) .kind ≡ Branch → slotAt code e ≡ targetOf code e
 unfolding slotAt targetOf
 target-slot code e q = ap (λ (l : List ℕ). getD l (e % 2) noLabel) (branch-names (at code (e / 2)) q) ∙ go (e % 2) (mod-lt e (omega arith))
   where
@@ -53,7 +52,7 @@ target-slot code e q = ap (λ (l : List ℕ). getD l (e % 2) noLabel) (branch-na
     go (suc zero) h = refl
     go (suc (suc d)) h = absurd (omega arith)
 
-target-named : (code : List Bytecode) (e : ℕ) → at code (e / 2) .kind ≡ 4 → List·Memᴰ (targetOf code e) (branchDests (at code (e / 2)))
+target-named : (code : List Bytecode) (e : ℕ) → at code (e / 2) .kind ≡ Branch → List·Memᴰ (targetOf code e) (branchDests (at code (e / 2)))
 unfolding targetOf
 target-named code e q =
     subst (λ (l : List ℕ). List·Memᴰ (cond (eqb (e % 2) 0) (at code (e / 2) .one) (at code (e / 2) .two)) l) (sym (branch-names (at code (e / 2)) q))
@@ -69,11 +68,11 @@ module _ {s targets info : List ℕ} {n : ℕ} (h : Ready s targets info n) wher
   edge-inside e l = omega arith
 
   -- where the edge of a Branch goes
-  module _ (e : ℕ) (r : Bytecode) (l : e < 2 * n) (q : r ≡ instructionAt s (e / 2)) (b : r .kind ≡ 4) where
+  module _ (e : ℕ) (r : Bytecode) (l : e < 2 * n) (q : r ≡ instructionAt s (e / 2)) (b : r .kind ≡ Branch) where
     code-is : at (codeOf s) (e / 2) ≡ r
     code-is = here (h .known) (e / 2) (edge-inside e l) ∙ sym q
 
-    is-branch : at (codeOf s) (e / 2) .kind ≡ 4
+    is-branch : at (codeOf s) (e / 2) .kind ≡ Branch
     is-branch = ap (λ (x : Bytecode). x .kind) code-is ∙ b
 
     pub target-is : r .one < noLabel → r .two < noLabel → getD targets e 0 ≡ labelOffset (codeOf s) (targetOf (codeOf s) e)
@@ -92,14 +91,14 @@ module _ {s targets info : List ℕ} {n : ℕ} (h : Ready s targets info n) wher
         ap (λ (t : Bool). elim t as (λ _. List ℕ) [ true ↦ members maxLocals (minus (bitAnd (infoAt (infosOf n info) (e / 2) .after) refs) (infoAt (infosOf n info) (labelOffset (codeOf s) (targetOf (codeOf s) e)) .before)) | false ↦ [] ]) (eq-eqb (at (codeOf s) (e / 2) .kind) 4 is-branch)
         ∙ ap₂ (λ (u v : ℕ). members maxLocals (minus (bitAnd u refs) v)) (ap (λ (i : LiveVarInfo). i .after) (sides-are info n (e / 2) (edge-inside e l)))
         (ap (λ (o : ℕ). infoAt (infosOf n info) o .before) (sym (target-is x y)) ∙ ap (λ (i : LiveVarInfo). i .before) (sides-are info n (getD targets e 0) (target-inside x y)))
-        ∙ sym (ap (λ (t : Bool). members maxLocals (cond t (minus (bitAnd (sidesAt info (e / 2) .after) refs) (sidesAt info (getD targets e 0) .before)) 0)) (eq-eqb (r .kind) 4 b))
+        ∙ sym (ap (λ (t : Bool). members maxLocals (cond t (minus (bitAnd (sidesAt info (e / 2) .after) refs) (sidesAt info (getD targets e 0) .before)) 0)) (eq-eqb (r .kind) Branch b))
 
-  lost-other : (refs e : ℕ) (r : Bytecode) → e < 2 * n → r ≡ instructionAt s (e / 2) → (r .kind ≡ 4 → ⊥) → lostRefs (codeOf s) (infosOf n info) refs e ≡ members maxLocals (lostBy targets info refs e r)
+  lost-other : (refs e : ℕ) (r : Bytecode) → e < 2 * n → r ≡ instructionAt s (e / 2) → (r .kind ≡ Branch → ⊥) → lostRefs (codeOf s) (infosOf n info) refs e ≡ members maxLocals (lostBy targets info refs e r)
   unfolding lostRefs lostBy
   lost-other refs e r l q b =
       ap (λ (t : Bool). elim t as (λ _. List ℕ) [ true ↦ members maxLocals (minus (bitAnd (infoAt (infosOf n info) (e / 2) .after) refs) (infoAt (infosOf n info) (labelOffset (codeOf s) (targetOf (codeOf s) e)) .before)) | false ↦ [] ])
       (ne-eqb (at (codeOf s) (e / 2) .kind) 4 (λ w. b (ap (λ (x : Bytecode). x .kind) (q ∙ sym (here (h .known) (e / 2) (edge-inside e l))) ∙ w)))
-      ∙ sym (ap (λ (t : Bool). members maxLocals (cond t (minus (bitAnd (sidesAt info (e / 2) .after) refs) (sidesAt info (getD targets e 0) .before)) 0)) (ne-eqb (r .kind) 4 b) ∙ walk-end maxLocals 0)
+      ∙ sym (ap (λ (t : Bool). members maxLocals (cond t (minus (bitAnd (sidesAt info (e / 2) .after) refs) (sidesAt info (getD targets e 0) .before)) 0)) (ne-eqb (r .kind) Branch b) ∙ walk-end maxLocals 0)
 
   -- either way
   pub lost-is : (refs e : ℕ) (r : Bytecode) → e < 2 * n → r ≡ instructionAt s (e / 2) → r .one < noLabel → r .two < noLabel → lostRefs (codeOf s) (infosOf n info) refs e ≡ members maxLocals (lostBy targets info refs e r)
@@ -128,37 +127,18 @@ edges-room {s} h bytes k r l q =
     (edge-room h (2 * k) r (omega arith) (q ∙ ap (instructionAt s) one) (low .0) (low .1), edge-room h (2 * k + 1) r (omega arith) (q ∙ ap (instructionAt s) two) (low .0) (low .1))
 
 -- by the code
-pub lost-none : (targets info : List ℕ) (refs e m : ℕ) (r : Bytecode) → (r .kind ≡ 4 → ⊥) → m ≡ 0 → m ≡ lostBy targets info refs e r
+pub lost-none : (targets info : List ℕ) (refs e m : ℕ) (r : Bytecode) → (r .kind ≡ Branch → ⊥) → m ≡ 0 → m ≡ lostBy targets info refs e r
 unfolding lostBy
-lost-none targets info refs e m r b z = z ∙ sym (ap (λ (t : Bool). cond t (minus (bitAnd (sidesAt info (e / 2) .after) refs) (sidesAt info (getD targets e 0) .before)) 0) (ne-eqb (r .kind) 4 b))
+lost-none targets info refs e m r b z = z ∙ sym (ap (λ (t : Bool). cond t (minus (bitAnd (sidesAt info (e / 2) .after) refs) (sidesAt info (getD targets e 0) .before)) 0) (ne-eqb (r .kind) Branch b))
 
-pub lost-some : (targets info : List ℕ) (refs e a c w m : ℕ) (r : Bytecode) → r .kind ≡ 4 → a ≡ sidesAt info (e / 2) .after → c ≡ bitAnd a refs → w ≡ sidesAt info (getD targets e 0) .before → m ≡ minus c w
+pub lost-some : (targets info : List ℕ) (refs e a c w m : ℕ) (r : Bytecode) → r .kind ≡ Branch → a ≡ sidesAt info (e / 2) .after → c ≡ bitAnd a refs → w ≡ sidesAt info (getD targets e 0) .before → m ≡ minus c w
     → m ≡ lostBy targets info refs e r
 unfolding lostBy
 lost-some targets info refs e a c w m r b ea ec ew em =
     em ∙ ap₂ minus (ec ∙ ap (λ (x : ℕ). bitAnd x refs) ea) ew
-    ∙ sym (ap (λ (t : Bool). cond t (minus (bitAnd (sidesAt info (e / 2) .after) refs) (sidesAt info (getD targets e 0) .before)) 0) (eq-eqb (r .kind) 4 b))
+    ∙ sym (ap (λ (t : Bool). cond t (minus (bitAnd (sidesAt info (e / 2) .after) refs) (sidesAt info (getD targets e 0) .before)) 0) (eq-eqb (r .kind) Branch b))
 
 -- ---- both edges are stored
-
-sets-length : (n : ℕ) (words : List ℕ) → length (setsOf n words) ≡ n
-unfolding setsOf
-sets-length n words = masks-length 64 setWords n words
-
-at-set : (n : ℕ) (words : List ℕ) (i : ℕ) → i < n → getD (setsOf n words) i 0 ≡ setAt words i
-unfolding setsOf setAt
-at-set n words i h = masks-at 64 setWords n words i h
-
-module _ (old : List ℕ) (i m : ℕ) (new : List ℕ) (stored : Stored old i m new) (n : ℕ) (inside : i < n) (fits : n * setWords ≤ length old) where
-  stored-here : setAt new i ≡ m
-  stored-here =
-      sym (at-set n new i inside) ∙ ap (λ (l : List ℕ). getD l i 0) (stored .sets n inside fits)
-      ∙ getD-set-same (setsOf n old) i m 0 (subst (λ (x : ℕ). i < x) (sym (sets-length n old)) inside)
-
-  stored-other : (j : ℕ) → j < n → j ≢ i → setAt new j ≡ setAt old j
-  stored-other j h g =
-      sym (at-set n new j h) ∙ ap (λ (l : List ℕ). getD l j 0) (stored .sets n inside fits)
-      ∙ getD-set-other (setsOf n old) i j m 0 g ∙ at-set n old j h
 
 module _ (targets info : List ℕ) (refs k : ℕ) (r : Bytecode) (old mid new : List ℕ) (a b : ℕ) (room : (2 * k + 2) * setWords ≤ length old)
     (one : Stored old (2 * k) a mid) (two : Stored mid (2 * k + 1) b new) where
@@ -188,7 +168,7 @@ planned-more {s} {targets} {info} {n} h refs k f r fates lost lost′ l in-fates
         by-eq j k (λ e. ap (λ (y : ℕ). getD (set fates k f) y 0) e ∙ getD-set-same fates k f 0 in-fates ∙ ef ∙ ap (fateOf (codeOf s) (infosOf n info)) (sym e))
         (λ g. getD-set-other fates k j f 0 g ∙ p .fate j (omega arith))
 
-    here-is : (e : ℕ) → e / 2 ≡ k → e < 2 * n → setAt lost′ e ≡ lostBy targets info refs e r → lostRefs (codeOf s) (infosOf n info) refs e ≡ lostAt lost′ e
+    here-is : (e : ℕ) → e / 2 ≡ k → e < 2 * n → storedSet lost′ e ≡ lostBy targets info refs e r → lostRefs (codeOf s) (infosOf n info) refs e ≡ lostAt lost′ e
     here-is e z i w = let low = low-labels h bytes k r l q in lost-is h refs e r i (q ∙ ap (instructionAt s) (sym z)) (low .0) (low .1) ∙ ap (members maxLocals) (sym w)
 
     edge : (e : ℕ) → e < 2 * (k + 1) → lostRefs (codeOf s) (infosOf n info) refs e ≡ lostAt lost′ e

@@ -18,7 +18,7 @@ use Rattle.dataflow_domains.specs.MaskLaws.{minus-lt}
 use Rattle.dataflow_domains.specs.Members.{members, Lowest}
 use Rattle.dataflow_domains.specs.MemberLaws.{walk-more, walk-end, members-length}
 use Rattle.stackless_bytecode.specs.declared.Bytecode.{Bytecode}
-use Rattle.stackless_bytecode.specs.Kinds.{Call, Label, Jump, Destroy, at, nop}
+use Rattle.stackless_bytecode.specs.Kinds.{Branch, Call, Label, Jump, Destroy, at, nop}
 use Rattle.sheet.specs.Layout.{countOf, codeOf, instructionAt, encode}
 use Rattle.sheet.specs.Checks.{checkSheet}
 use Rattle.base.specs.Refusals.{Accepted}
@@ -28,7 +28,7 @@ use Rattle.sheet_writer.specs.RecordsLaws.{placed-none, placed-more, placed-one
 use Rattle.livevar_transform.specs.declared.plan.Next.{Next}
 use Rattle.livevar_transform.specs.Rewrite.{made, aimed, into, destroys, destroyBlock, targetOf}
 use Rattle.livevar_transform.specs.PieceLaws.{destroys-length, destroy-at}
-use Rattle.dataflow_domains.specs.Sets.{setAt}
+use Rattle.dataflow_domains.specs.Sets.{storedSet}
 use Rattle.livevar_transform.specs.Plan.{past, numbersAt, goesAt, aimedAt, standsAt, keptAt, addedAt, keptBy, addedBy, codeBy}
 use Rattle.livevar_transform.specs.NumberLaws.{some-ones, none-lost, some-lost}
 
@@ -129,7 +129,7 @@ goes-old m old label e = sym (ap (λ (xs : List ℕ). goesAt xs old label) (none
 pub goes-new : (m old label : ℕ) → (m ≡ 0 → ⊥) → m < 2 ^ maxLocals → label ≡ goesAt (members maxLocals m) old label
 goes-new m old label f h = sym (ap (λ (b : Bool). cond b label old) (lt-ltb 0 (length (members maxLocals m)) (some-lost m f h)))
 
-pub aimed-by : (lost : List ℕ) (k : ℕ) (x y : Next) (r : Bytecode) (a b one two : ℕ) → a ≡ setAt lost (2 * k) → b ≡ setAt lost (2 * k + 1) → one ≡ goesAt (members maxLocals a) (r .one) (x .label) → y ≡ past x (members maxLocals a)
+pub aimed-by : (lost : List ℕ) (k : ℕ) (x y : Next) (r : Bytecode) (a b one two : ℕ) → a ≡ storedSet lost (2 * k) → b ≡ storedSet lost (2 * k + 1) → one ≡ goesAt (members maxLocals a) (r .one) (x .label) → y ≡ past x (members maxLocals a)
     → two ≡ goesAt (members maxLocals b) (r .two) (y .label) → aimed r one two ≡ aimedAt lost k x r
 unfolding aimedAt
 aimed-by lost k x y r a b one two ea eb eo ey et =
@@ -152,20 +152,20 @@ module _ (s : List ℕ) (a : checkSheet s ≡ Accepted) (e : ℕ) (r : Bytecode)
 -- ---- what stands for an offset
 
 module _ (code : List Bytecode) (fates lost : List ℕ) (k : ℕ) (x : Next) (r : Bytecode) (is : r ≡ at code k) where
-  pub stands-branch : r .kind ≡ 4 → aimedAt lost k x r ≡ standsAt code fates lost k x
+  pub stands-branch : r .kind ≡ Branch → aimedAt lost k x r ≡ standsAt code fates lost k x
   unfolding standsAt
   stands-branch q =
-      ap (aimedAt lost k x) is ∙ sym (ap (λ (b : Bool). cond b (aimedAt lost k x (at code k)) (cond (eqb (getD fates k 0) 2) (into (at code k) (at code (suc k) .dsts)) (at code k))) (eq-eqb (at code k .kind) 4 (ap (λ (y : Bytecode). y .kind) (sym is) ∙ q)))
+      ap (aimedAt lost k x) is ∙ sym (ap (λ (b : Bool). cond b (aimedAt lost k x (at code k)) (cond (eqb (getD fates k 0) 2) (into (at code k) (at code (suc k) .dsts)) (at code k))) (eq-eqb (at code k .kind) Branch (ap (λ (y : Bytecode). y .kind) (sym is) ∙ q)))
 
-  other : (r .kind ≡ 4 → ⊥) → standsAt code fates lost k x ≡ cond (eqb (getD fates k 0) 2) (into (at code k) (at code (suc k) .dsts)) (at code k)
+  other : (r .kind ≡ Branch → ⊥) → standsAt code fates lost k x ≡ cond (eqb (getD fates k 0) 2) (into (at code k) (at code (suc k) .dsts)) (at code k)
   unfolding standsAt
-  other q = ap (λ (b : Bool). cond b (aimedAt lost k x (at code k)) (cond (eqb (getD fates k 0) 2) (into (at code k) (at code (suc k) .dsts)) (at code k))) (ne-eqb (at code k .kind) 4 (λ z. q (ap (λ (y : Bytecode). y .kind) is ∙ z)))
+  other q = ap (λ (b : Bool). cond b (aimedAt lost k x (at code k)) (cond (eqb (getD fates k 0) 2) (into (at code k) (at code (suc k) .dsts)) (at code k))) (ne-eqb (at code k .kind) Branch (λ z. q (ap (λ (y : Bytecode). y .kind) is ∙ z)))
 
-  pub stands-merged : (a : Bytecode) → getD fates k 0 ≡ 2 → (r .kind ≡ 4 → ⊥) → a ≡ at code (k + 1) → into r (a .dsts) ≡ standsAt code fates lost k x
+  pub stands-merged : (a : Bytecode) → getD fates k 0 ≡ 2 → (r .kind ≡ Branch → ⊥) → a ≡ at code (k + 1) → into r (a .dsts) ≡ standsAt code fates lost k x
   stands-merged a m q g =
       ap₂ (λ (y z : Bytecode). into y (z .dsts)) is (g ∙ ap (at code) (add-one k)) ∙ sym (other q ∙ ap (λ (b : Bool). cond b (into (at code k) (at code (suc k) .dsts)) (at code k)) (eq-eqb _ 2 m))
 
-  pub stands-plain : (getD fates k 0 ≡ 2 → ⊥) → (r .kind ≡ 4 → ⊥) → r ≡ standsAt code fates lost k x
+  pub stands-plain : (getD fates k 0 ≡ 2 → ⊥) → (r .kind ≡ Branch → ⊥) → r ≡ standsAt code fates lost k x
   stands-plain m q = is ∙ sym (other q ∙ ap (λ (b : Bool). cond b (into (at code k) (at code (suc k) .dsts)) (at code k)) (ne-eqb _ 2 m))
 
 -- ---- the kept instructions
@@ -181,7 +181,7 @@ module _ (code : List Bytecode) (fates lost : List ℕ) (k : ℕ) (x : Next) whe
 
 -- ---- the block of an edge by the table
 
-module _ (code : List Bytecode) (lost : List ℕ) (e m : ℕ) (x : Next) (l : m ≡ setAt lost e) where
+module _ (code : List Bytecode) (lost : List ℕ) (e m : ℕ) (x : Next) (l : m ≡ storedSet lost e) where
   pub block-on : (t : ℕ) (d out : List ℕ) → t ≡ targetOf code e → out ≡ placed (destroyBlock (x .attr) (x .label) t (members maxLocals m)) d → out ≡ placed (addedAt code lost e x) d
   unfolding addedAt
   block-on t d out p q = q ∙ ap₂ (λ (y z : ℕ). placed (destroyBlock (x .attr) (x .label) y (members maxLocals z)) d) p l

@@ -17,7 +17,7 @@ use Rattle.base.specs.ListLaws.{by-test, by-eq, or-true, and-true}
 use Rattle.base.specs.JoinLaws.{joins-length, total-same, count-total, count-in, count-out, count-le}
 use Rattle.dataflow_domains.specs.Mask.{holds}
 use Rattle.dataflow_domains.specs.MaskLaws.{sub-empty, ones-zero, ones-same}
-use Rattle.dataflow_domains.specs.Sets.{setAt}
+use Rattle.dataflow_domains.specs.Sets.{storedSet}
 use Rattle.dataflow_domains.specs.Members.{members}
 use Rattle.dataflow_domains.specs.MemberLaws.{walk-end, members-length}
 use Rattle.stackless_bytecode.specs.declared.Bytecode.{Bytecode}
@@ -25,7 +25,7 @@ use Rattle.livevar_transform.specs.declared.plan.Next.{Next}
 use Rattle.livevar_transform.specs.declared.plan.Counts.{Counts}
 use Rattle.livevar_transform.specs.Rewrite.{blockSize, targetOf}
 use Rattle.livevar_transform.specs.PieceLaws.{size-is, block-size}
-use Rattle.livevar_transform.specs.Plan.{PlanRoom, lostAt, past, numbersAt, NextBelow, nextRoom, LowNext, Counted, standsAt, keptAt, addedAt, keptBy, addedBy, codeBy, BlockRoom, BlockFits, LabelsFit, Fitting}
+use Rattle.livevar_transform.specs.Plan.{PlanRoom, lostAt, past, numbersAt, NextBelow, nextRoom, LowNext, Counted, standsAt, keptAt, addedAt, keptBy, addedBy, codeBy, NewBlockRoom, BlockFits, LabelsFit, Fitting}
 use Rattle.livevar_transform.specs.RewriteWork.{fitBetween}
 
 -- ---- the elements of a set, and their number
@@ -79,16 +79,16 @@ past-below x y m h e = subst (NextBelow (2 * nextRoom)) (sym e) (record { label 
 pub wide-below : (x : Next) → NextBelow nextRoom x → NextBelow (2 * nextRoom) x
 wide-below x h = record { label = omega (arith, h .label); attr = omega (arith, h .attr) }
 
-pub past-two : (lost : List ℕ) (k a b : ℕ) (x y z : Next) → y ≡ past x (members maxLocals a) → z ≡ past y (members maxLocals b) → a ≡ setAt lost (2 * k) → b ≡ setAt lost (2 * k + 1)
+pub past-two : (lost : List ℕ) (k a b : ℕ) (x y z : Next) → y ≡ past x (members maxLocals a) → z ≡ past y (members maxLocals b) → a ≡ storedSet lost (2 * k) → b ≡ storedSet lost (2 * k + 1)
     → z ≡ past (past x (lostAt lost (2 * k))) (lostAt lost (2 * k + 1))
 past-two lost k a b x y z ey ez ea eb = ez ∙ ap₂ (λ (w : Next) (m : ℕ). past w (members maxLocals m)) (ey ∙ ap (λ (m : ℕ). past x (members maxLocals m)) ea) eb
 
 -- the labels of the edges of offset k fit
-module _ (lost : List ℕ) (k a : ℕ) (x : Next) (f : LabelsFit lost k x) (ea : a ≡ setAt lost (2 * k)) where
+module _ (lost : List ℕ) (k a : ℕ) (x : Next) (f : LabelsFit lost k x) (ea : a ≡ storedSet lost (2 * k)) where
   pub label-one : 0 < length (members maxLocals a) → x .label ≤ maxNumber
   label-one w = f .one (subst (λ (m : ℕ). 0 < length (members maxLocals m)) ea w)
 
-  pub label-two : (b : ℕ) (y : Next) → b ≡ setAt lost (2 * k + 1) → y ≡ past x (members maxLocals a) → 0 < length (members maxLocals b) → y .label ≤ maxNumber
+  pub label-two : (b : ℕ) (y : Next) → b ≡ storedSet lost (2 * k + 1) → y ≡ past x (members maxLocals a) → 0 < length (members maxLocals b) → y .label ≤ maxNumber
   label-two b y eb ey w =
       let same : y .label ≡ past x (lostAt lost (2 * k)) .label = ap (λ (z : Next). z .label) (ey ∙ ap (λ (m : ℕ). past x (members maxLocals m)) ea) in
       omega (arith, f .two (subst (λ (m : ℕ). 0 < length (members maxLocals m)) eb w))
@@ -112,7 +112,7 @@ module _ (first : Next) (lost : List ℕ) where
   steps : (e : ℕ) → (numbersAt first lost e .label ≤ first .label + e) × (numbersAt first lost e .attr ≤ first .attr + (maxLocals + 2) * e)
   unfolding numbersAt
   steps zero = (omega arith, omega arith)
-  steps (suc e) = let p = past-small (numbersAt first lost e) (setAt lost e) in (omega (arith, steps e .0, p .0), omega (arith, steps e .1, p .1))
+  steps (suc e) = let p = past-small (numbersAt first lost e) (storedSet lost e) in (omega (arith, steps e .0, p .0), omega (arith, steps e .1, p .1))
 
   pub numbers-small : (e : ℕ) (x : Next) → LowNext first → e ≤ 2 * maxInstructions → x ≡ numbersAt first lost e → NextBelow nextRoom x
   numbers-small e x h l q = subst (NextBelow nextRoom) (sym q) (record { label = omega (arith, steps e .0, h .label); attr = omega (arith, steps e .1, h .attr) })
@@ -167,12 +167,12 @@ module _ (first : Next) (lost : List ℕ) where
   }
 
 -- by a set that is read from the table
-module _ (lost : List ℕ) (e m : ℕ) (x : Next) (is : m ≡ setAt lost e) where
+module _ (lost : List ℕ) (e m : ℕ) (x : Next) (is : m ≡ storedSet lost e) where
   pub past-as : (y : Next) → y ≡ past x (members maxLocals m) → y ≡ past x (lostAt lost e)
   past-as y q = q ∙ ap (λ (z : ℕ). past x (members maxLocals z)) is
 
   -- room for a block
-  pub block-room : (size : ℕ) → (m ≡ 0 → ⊥) → m < 2 ^ maxLocals → BlockFits (lostAt lost e) x size → BlockRoom x m size
+  pub block-room : (size : ℕ) → (m ≡ 0 → ⊥) → m < 2 ^ maxLocals → BlockFits (lostAt lost e) x size → NewBlockRoom x m size
   block-room size f h b =
       let long : blockSize (lostAt lost e) ≡ ones m + 2 = ap (λ (z : ℕ). blockSize (members maxLocals z)) (sym is) ∙ added-is m f h in
       let some : 0 < length (lostAt lost e) = subst (λ (z : ℕ). 0 < length (members maxLocals z)) is (some-lost m f h) in

@@ -12,7 +12,7 @@ use lib.ListN.{getD, length, length-append, List·getD-append, List·getD-eq-def
 use Rattle.dataflow_domains.specs.Mask.{holds}
 use Rattle.stackless_bytecode.specs.declared.Bytecode.{Bytecode}
 use Rattle.base.specs.Lists.{count, gather}
-use Rattle.stackless_bytecode.specs.Kinds.{nop, at, isFlagged, fallsThrough, branchDests, labelOf}
+use Rattle.stackless_bytecode.specs.Kinds.{Assign, Call, Load, Jump, Label, Destroy, nop, at, isFlagged, fallsThrough, branchDests, labelOf}
 use Rattle.livevar_analysis.specs.Analysis.{LiveVarInfo}
 use Rattle.livevar_transform.specs.Rewrite.{made, destroys, destroyBlock, blockSize, infoAt, isDead, isMerged, isDropped, highest, nextFreeLabel}
 use Rattle.base.specs.ListLaws.{by-test, gather-in, getD-in, and-true}
@@ -37,23 +37,23 @@ unfolding destroys
 destroys-length a [] = refl
 destroys-length a (x ∷ xs) = ap suc (destroys-length (suc a) xs)
 
-pub destroy-at : (a : ℕ) (xs : List ℕ) (i : ℕ) → i < length xs → getD (destroys a xs) i nop ≡ made 1 13 (a + i) 0 (getD xs i 0 ∷ [])
+pub destroy-at : (a : ℕ) (xs : List ℕ) (i : ℕ) → i < length xs → getD (destroys a xs) i nop ≡ made Call Destroy (a + i) 0 (getD xs i 0 ∷ [])
 unfolding destroys
 destroy-at a [] i h = absurd (not-suc-le-zero h)
-destroy-at a (x ∷ xs) zero h = let e : a ≡ a + 0 = omega arith in ap (λ (z : ℕ). made 1 13 z 0 (x ∷ [])) e
+destroy-at a (x ∷ xs) zero h = let e : a ≡ a + 0 = omega arith in ap (λ (z : ℕ). made Call Destroy z 0 (x ∷ [])) e
 destroy-at a (x ∷ xs) (suc i) h =
     let e : suc a + i ≡ a + suc i = omega arith in
-    destroy-at (suc a) xs i (le-of-suc-le-suc h) ∙ ap (λ (z : ℕ). made 1 13 z 0 (getD xs i 0 ∷ [])) e
+    destroy-at (suc a) xs i (le-of-suc-le-suc h) ∙ ap (λ (z : ℕ). made Call Destroy z 0 (getD xs i 0 ∷ [])) e
 
 pub block-size : (a l t : ℕ) (xs : List ℕ) → length (destroyBlock a l t xs) ≡ blockSize xs
 unfolding destroyBlock blockSize
 block-size a l t [] = refl
-block-size a l t (x ∷ xs) = omega (arith, length-append (destroys (suc a) (x ∷ xs)) (made 5 0 (suc a + suc (length xs)) t [] ∷ []), destroys-length (suc a) (x ∷ xs))
+block-size a l t (x ∷ xs) = omega (arith, length-append (destroys (suc a) (x ∷ xs)) (made Jump 0 (suc a + suc (length xs)) t [] ∷ []), destroys-length (suc a) (x ∷ xs))
 
 pub data Part (a l t : ℕ) (lost : List ℕ) (j : ℕ) (r : Bytecode) : Type 0 where
-  head : j ≡ 0 → r ≡ made 6 0 a l [] → Part a l t lost j r
-  destroy : (i : ℕ) → i < length lost → j ≡ suc i → r ≡ made 1 13 (suc a + i) 0 (getD lost i 0 ∷ []) → Part a l t lost j r
-  last : j ≡ suc (length lost) → r ≡ made 5 0 (suc a + length lost) t [] → Part a l t lost j r
+  head : j ≡ 0 → r ≡ made Label 0 a l [] → Part a l t lost j r
+  destroy : (i : ℕ) → i < length lost → j ≡ suc i → r ≡ made Call Destroy (suc a + i) 0 (getD lost i 0 ∷ []) → Part a l t lost j r
+  last : j ≡ suc (length lost) → r ≡ made Jump 0 (suc a + length lost) t [] → Part a l t lost j r
 
 pub block-part : (a l t : ℕ) (lost : List ℕ) (j : ℕ) → j < blockSize lost → Part a l t lost j (getD (destroyBlock a l t lost) j nop)
 unfolding destroyBlock blockSize
@@ -64,36 +64,36 @@ block-part a l t (x ∷ xs) (suc i) h =
     (λ g. destroy i g refl (List·getD-append (destroys (suc a) (x ∷ xs)) _ nop i (omega (arith, destroys-length (suc a) (x ∷ xs))) ∙ destroy-at (suc a) (x ∷ xs) i g))
     (λ g. let s : i ≡ suc (length xs) = omega arith in
     let z : i - length (destroys (suc a) (x ∷ xs)) ≡ 0 = omega (arith, destroys-length (suc a) (x ∷ xs)) in
-    last (omega arith) (getD-behind (destroys (suc a) (x ∷ xs)) (made 5 0 (suc a + suc (length xs)) t [] ∷ []) i nop (omega (arith, destroys-length (suc a) (x ∷ xs)))
-    ∙ ap (λ (y : ℕ). getD (made 5 0 (suc a + suc (length xs)) t [] ∷ []) y nop) z))
+    last (omega arith) (getD-behind (destroys (suc a) (x ∷ xs)) (made Jump 0 (suc a + suc (length xs)) t [] ∷ []) i nop (omega (arith, destroys-length (suc a) (x ∷ xs)))
+    ∙ ap (λ (y : ℕ). getD (made Jump 0 (suc a + suc (length xs)) t [] ∷ []) y nop) z))
 
 -- what the instructions of a block mark and name
-pub head-marks : (a l : ℕ) → labelOf (made 6 0 a l []) ≡ l ∷ []
+pub head-marks : (a l : ℕ) → labelOf (made Label 0 a l []) ≡ l ∷ []
 unfolding labelOf
 head-marks a l = refl
 
-pub destroy-marks : (a x : ℕ) → labelOf (made 1 13 a 0 (x ∷ [])) ≡ []
+pub destroy-marks : (a x : ℕ) → labelOf (made Call Destroy a 0 (x ∷ [])) ≡ []
 unfolding labelOf
 destroy-marks a x = refl
 
-pub last-marks : (a t : ℕ) → labelOf (made 5 0 a t []) ≡ []
+pub last-marks : (a t : ℕ) → labelOf (made Jump 0 a t []) ≡ []
 unfolding labelOf
 last-marks a t = refl
 
-pub head-names : (a l : ℕ) → branchDests (made 6 0 a l []) ≡ []
+pub head-names : (a l : ℕ) → branchDests (made Label 0 a l []) ≡ []
 unfolding branchDests isFlagged
 head-names a l = refl
 
-pub destroy-names : (a x : ℕ) → branchDests (made 1 13 a 0 (x ∷ [])) ≡ []
+pub destroy-names : (a x : ℕ) → branchDests (made Call Destroy a 0 (x ∷ [])) ≡ []
 unfolding branchDests isFlagged
 destroy-names a x = refl
 
-pub last-names : (a t : ℕ) → branchDests (made 5 0 a t []) ≡ t ∷ []
+pub last-names : (a t : ℕ) → branchDests (made Jump 0 a t []) ≡ t ∷ []
 unfolding branchDests isFlagged
 last-names a t = refl
 
 -- a block that loses something has its Label first, its Destroys next, and its Jump last
-pub block-head : (a l t : ℕ) (lost : List ℕ) → 0 < length lost → getD (destroyBlock a l t lost) 0 nop ≡ made 6 0 a l []
+pub block-head : (a l t : ℕ) (lost : List ℕ) → 0 < length lost → getD (destroyBlock a l t lost) 0 nop ≡ made Label 0 a l []
 unfolding destroyBlock
 block-head a l t [] h = absurd (not-suc-le-zero h)
 block-head a l t (x ∷ xs) h = refl
@@ -118,25 +118,25 @@ pos code info k = count k (λ j. not (isDropped code info j))
 
 module _ (code : List Bytecode) (info : List LiveVarInfo) where
   pub record Dead (k : ℕ) : Type 0 where
-    pub kind : (at code k .kind ≡ 0) ⊎ (at code k .kind ≡ 3)
+    pub kind : (at code k .kind ≡ Assign) ⊎ (at code k .kind ≡ Load)
     pub gone : holds (infoAt info k .after) (getD (at code k .dsts) 0 0) ≡ false
 
   pub record Merged (k : ℕ) : Type 0 where
-    pub call : at code k .kind ≡ 1
+    pub call : at code k .kind ≡ Call
     pub single : at code k .ndst ≡ 1
-    pub assign : at code (suc k) .kind ≡ 0
+    pub assign : at code (suc k) .kind ≡ Assign
     pub from : getD (at code (suc k) .srcs) 0 0 ≡ getD (at code k .dsts) 0 0
     pub gone : holds (infoAt info (suc k) .after) (getD (at code k .dsts) 0 0) ≡ false
 
   pub is-dead : (k : ℕ) → isDead code info k ≡ true → Dead k
   unfolding isDead
   is-dead k e =
-      let r = and-true (eqb (at code k .kind) 0 || eqb (at code k .kind) 3) _ e in
+      let r = and-true (eqb (at code k .kind) Assign || eqb (at code k .kind) Load) _ e in
       record { kind = either (r .0); gone = not-true _ (r .1) }
     where
-      either : eqb (at code k .kind) 0 || eqb (at code k .kind) 3 ≡ true → (at code k .kind ≡ 0) ⊎ (at code k .kind ≡ 3)
+      either : eqb (at code k .kind) Assign || eqb (at code k .kind) Load ≡ true → (at code k .kind ≡ Assign) ⊎ (at code k .kind ≡ Load)
       either =
-          by-test (λ b. eqb (at code k .kind) 0 ≡ b → b || eqb (at code k .kind) 3 ≡ true → (at code k .kind ≡ 0) ⊎ (at code k .kind ≡ 3)) (eqb (at code k .kind) 0)
+          by-test (λ b. eqb (at code k .kind) Assign ≡ b → b || eqb (at code k .kind) Load ≡ true → (at code k .kind ≡ Assign) ⊎ (at code k .kind ≡ Load)) (eqb (at code k .kind) Assign)
           (λ t q f. inl (eqb-true _ 0 t)) (λ t q f. inr (eqb-true _ 3 f)) refl
 
   pub is-merged : (k : ℕ) → isMerged code info k ≡ true → Merged k
@@ -144,10 +144,10 @@ module _ (code : List Bytecode) (info : List LiveVarInfo) where
   is-merged k e =
       let c = at code k in
       let n = at code (suc k) in
-      let r1 = and-true (eqb (c .kind) 1 && eqb (c .ndst) 1 && eqb (n .kind) 0 && eqb (getD (n .srcs) 0 0) (getD (c .dsts) 0 0)) _ e in
-      let r2 = and-true (eqb (c .kind) 1 && eqb (c .ndst) 1 && eqb (n .kind) 0) _ (r1 .0) in
-      let r3 = and-true (eqb (c .kind) 1 && eqb (c .ndst) 1) _ (r2 .0) in
-      let r4 = and-true (eqb (c .kind) 1) _ (r3 .0) in
+      let r1 = and-true (eqb (c .kind) Call && eqb (c .ndst) 1 && eqb (n .kind) Assign && eqb (getD (n .srcs) 0 0) (getD (c .dsts) 0 0)) _ e in
+      let r2 = and-true (eqb (c .kind) Call && eqb (c .ndst) 1 && eqb (n .kind) Assign) _ (r1 .0) in
+      let r3 = and-true (eqb (c .kind) Call && eqb (c .ndst) 1) _ (r2 .0) in
+      let r4 = and-true (eqb (c .kind) Call) _ (r3 .0) in
       record {
         call = eqb-true _ 1 (r4 .0);
         single = eqb-true _ 1 (r4 .1);
@@ -168,7 +168,7 @@ module _ (code : List Bytecode) (info : List LiveVarInfo) where
       by-test (λ b. isDead code info (suc k) ≡ b → b || isMerged code info k ≡ true → Gone (suc k)) (isDead code info (suc k))
       (λ t q f. dead (is-dead (suc k) t)) (λ t q f. behind f (is-merged k f)) refl e
 
-  gone-kind : {k : ℕ} → Gone k → (at code k .kind ≡ 0) ⊎ (at code k .kind ≡ 3)
+  gone-kind : {k : ℕ} → Gone k → (at code k .kind ≡ Assign) ⊎ (at code k .kind ≡ Load)
   gone-kind (dead d) = d .kind
   gone-kind (behind e m) = inl (m .assign)
 
@@ -186,10 +186,10 @@ module _ (code : List Bytecode) (info : List LiveVarInfo) where
   gone-names {k} g = ⊎-elim (assign-names (at code k)) (load-names (at code k)) (gone-kind g)
 
   -- what is dead is dropped (for request E12)
-  pub dead-dropped : (k : ℕ) → (at code k .kind ≡ 0) ⊎ (at code k .kind ≡ 3) → holds (infoAt info k .after) (getD (at code k .dsts) 0 0) ≡ false → isDropped code info k ≡ true
+  pub dead-dropped : (k : ℕ) → (at code k .kind ≡ Assign) ⊎ (at code k .kind ≡ Load) → holds (infoAt info k .after) (getD (at code k .dsts) 0 0) ≡ false → isDropped code info k ≡ true
   dead-dropped k kind e = go k (dead-is k kind e)
     where
-      dead-is : (j : ℕ) → (at code j .kind ≡ 0) ⊎ (at code j .kind ≡ 3) → holds (infoAt info j .after) (getD (at code j .dsts) 0 0) ≡ false → isDead code info j ≡ true
+      dead-is : (j : ℕ) → (at code j .kind ≡ Assign) ⊎ (at code j .kind ≡ Load) → holds (infoAt info j .after) (getD (at code j .dsts) 0 0) ≡ false → isDead code info j ≡ true
       dead-is j (inl q) f = unfold isDead in ap₂ (λ (x : ℕ) (b : Bool). (eqb x 0 || eqb x 3) && not b) q f
       dead-is j (inr q) f = unfold isDead in ap₂ (λ (x : ℕ) (b : Bool). (eqb x 0 || eqb x 3) && not b) q f
 

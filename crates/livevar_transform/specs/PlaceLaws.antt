@@ -17,7 +17,7 @@ use Rattle.dataflow_domains.specs.HoldsLaws.{holds-true}
 use Rattle.stackless_bytecode.specs.declared.Bytecode.{Bytecode}
 use Rattle.base.specs.Sizes.{maxLocals}
 use Rattle.base.specs.Lists.{keep, count, total, joins}
-use Rattle.stackless_bytecode.specs.Kinds.{nop, at, isExit, isFlagged, isJump, fallsThrough, branchDests, labelOf}
+use Rattle.stackless_bytecode.specs.Kinds.{Branch, Label, nop, at, isExit, isFlagged, isJump, fallsThrough, branchDests, labelOf}
 use Rattle.stackless_bytecode.specs.Successors.{labelOffset}
 use Rattle.livevar_analysis.specs.Analysis.{LiveVarInfo}
 use Rattle.livevar_transform.specs.Rewrite.{aimed, into, destroyBlock, blockSize, infoAt, isMerged, isDropped, targetOf, lostRefs, isLosing, labelFor, attrFor, goesTo, standsFor, keptCode, blockOn, addedCode, transformCode}
@@ -134,19 +134,19 @@ module _ (code : List Bytecode) (info : List LiveVarInfo) (refs : ℕ) where
   -- ---- what stands for an offset
 
   pub by-stands : (P : Bytecode → Type 0) (k : ℕ)
-      → (at code k .kind ≡ 4 → P (aimed (at code k) (goesTo code info refs (2 * k)) (goesTo code info refs (suc (2 * k)))))
+      → (at code k .kind ≡ Branch → P (aimed (at code k) (goesTo code info refs (2 * k)) (goesTo code info refs (suc (2 * k)))))
       → (isMerged code info k ≡ true → P (into (at code k) (at code (suc k) .dsts)))
       → (at code k .kind ≢ 4 → isMerged code info k ≡ false → P (at code k))
       → P (standsFor code info refs k)
   unfolding standsFor
   by-stands P k branch merged other =
-      by-test (λ b. P (cond b (aimed (at code k) (goesTo code info refs (2 * k)) (goesTo code info refs (suc (2 * k)))) (cond (isMerged code info k) (into (at code k) (at code (suc k) .dsts)) (at code k)))) (eqb (at code k .kind) 4)
+      by-test (λ b. P (cond b (aimed (at code k) (goesTo code info refs (2 * k)) (goesTo code info refs (suc (2 * k)))) (cond (isMerged code info k) (into (at code k) (at code (suc k) .dsts)) (at code k)))) (eqb (at code k .kind) Branch)
       (λ e. branch (eqb-true _ 4 e))
       (λ e. by-test (λ b. P (cond b (into (at code k) (at code (suc k) .dsts)) (at code k))) (isMerged code info k) merged (other (eqb-false _ 4 e)))
 
   pub stands-label : (k : ℕ) → labelOf (standsFor code info refs k) ≡ labelOf (at code k)
   unfolding labelOf
-  stands-label k = by-stands (λ r. cond (eqb (r .kind) 6) (r .one ∷ []) [] ≡ cond (eqb (at code k .kind) 6) (at code k .one ∷ []) []) k (λ e. rw e) (λ e. refl) (λ e f. refl)
+  stands-label k = by-stands (λ r. cond (eqb (r .kind) Label) (r .one ∷ []) [] ≡ cond (eqb (at code k .kind) Label) (at code k .one ∷ []) []) k (λ e. rw e) (λ e. refl) (λ e f. refl)
 
   pub stands-falls : (k : ℕ) → fallsThrough (standsFor code info refs k) ≡ fallsThrough (at code k)
   unfolding fallsThrough isJump isFlagged isExit
@@ -163,10 +163,10 @@ module _ (code : List Bytecode) (info : List LiveVarInfo) (refs : ℕ) where
   some-losing e h = lt-ltb 0 _ h
 
   -- only a Branch loses
-  pub losing-branch : (e : ℕ) → 0 < length (lostRefs code info refs e) → at code (e / 2) .kind ≡ 4
+  pub losing-branch : (e : ℕ) → 0 < length (lostRefs code info refs e) → at code (e / 2) .kind ≡ Branch
   unfolding lostRefs
   losing-branch e h =
-      by-test (λ b. eqb (at code (e / 2) .kind) 4 ≡ b → 0 < length {A = ℕ} (elim b as (λ _. List ℕ) [ true ↦ keep maxLocals 0 (holds (minus (bitAnd (infoAt info (e / 2) .after) refs) (infoAt info (labelOffset code (targetOf code e)) .before))) | false ↦ [] ]) → at code (e / 2) .kind ≡ 4) (eqb (at code (e / 2) .kind) 4)
+      by-test (λ b. eqb (at code (e / 2) .kind) Branch ≡ b → 0 < length {A = ℕ} (elim b as (λ _. List ℕ) [ true ↦ keep maxLocals 0 (holds (minus (bitAnd (infoAt info (e / 2) .after) refs) (infoAt info (labelOffset code (targetOf code e)) .before))) | false ↦ [] ]) → at code (e / 2) .kind ≡ Branch) (eqb (at code (e / 2) .kind) Branch)
       (λ t q g. eqb-true _ 4 t) (λ t q g. absurd (not-suc-le-zero g)) refl h
 
   -- what an edge loses is in the Branch's after, a reference, and not in the target's before
@@ -179,12 +179,12 @@ module _ (code : List Bytecode) (info : List LiveVarInfo) (refs : ℕ) where
   unfoldable pub lost-mask : ℕ → ℕ
   lost-mask e = minus (bitAnd (infoAt info (e / 2) .after) refs) (infoAt info (labelOffset code (targetOf code e)) .before)
 
-  pub lost-is : (e : ℕ) → at code (e / 2) .kind ≡ 4 → lostRefs code info refs e ≡ keep maxLocals 0 (holds (lost-mask e))
+  pub lost-is : (e : ℕ) → at code (e / 2) .kind ≡ Branch → lostRefs code info refs e ≡ keep maxLocals 0 (holds (lost-mask e))
   unfolding lostRefs lost-mask
   lost-is e h =
-      ap (λ (b : Bool). elim b as (λ _. List ℕ) [ true ↦ keep maxLocals 0 (holds (minus (bitAnd (infoAt info (e / 2) .after) refs) (infoAt info (labelOffset code (targetOf code e)) .before))) | false ↦ [] ]) (eq-eqb (at code (e / 2) .kind) 4 h)
+      ap (λ (b : Bool). elim b as (λ _. List ℕ) [ true ↦ keep maxLocals 0 (holds (minus (bitAnd (infoAt info (e / 2) .after) refs) (infoAt info (labelOffset code (targetOf code e)) .before))) | false ↦ [] ]) (eq-eqb (at code (e / 2) .kind) Branch h)
 
-  pub in-lost : (e x : ℕ) → at code (e / 2) .kind ≡ 4 → List·Memᴰ x (lostRefs code info refs e) → Lost e x
+  pub in-lost : (e x : ℕ) → at code (e / 2) .kind ≡ Branch → List·Memᴰ x (lostRefs code info refs e) → Lost e x
   unfolding lost-mask
   in-lost e x h i =
       let k = in-keep maxLocals 0 x (holds (lost-mask e)) (subst (λ (l : List ℕ). List·Memᴰ x l) (lost-is e h) i) in
@@ -201,7 +201,7 @@ module _ (code : List Bytecode) (info : List LiveVarInfo) (refs : ℕ) where
       }
 
   -- the label that an edge goes to is named
-  pub target-named : (e : ℕ) → at code (e / 2) .kind ≡ 4 → List·Memᴰ (targetOf code e) (branchDests (at code (e / 2)))
+  pub target-named : (e : ℕ) → at code (e / 2) .kind ≡ Branch → List·Memᴰ (targetOf code e) (branchDests (at code (e / 2)))
   unfolding targetOf
   target-named e h =
       subst (λ (l : List ℕ). List·Memᴰ (cond (eqb (e % 2) 0) (at code (e / 2) .one) (at code (e / 2) .two)) l) (sym (branch-names (at code (e / 2)) h))

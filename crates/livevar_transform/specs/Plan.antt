@@ -12,7 +12,7 @@ use Rattle.base.specs.Refusals.{Accepted}
 use Rattle.base.specs.Lists.{count, joins}
 use Rattle.base.specs.Bytes.{part}
 use Rattle.dataflow_domains.specs.Mask.{minus}
-use Rattle.dataflow_domains.specs.Sets.{setAt}
+use Rattle.dataflow_domains.specs.Sets.{storedSet}
 use Rattle.dataflow_domains.specs.Members.{members}
 use Rattle.stackless_bytecode.specs.declared.Bytecode.{Bytecode}
 use Rattle.stackless_bytecode.specs.Kinds.{Branch, at}
@@ -68,13 +68,13 @@ pub record EdgeRoom (targets info : List ℕ) (e : ℕ) (r : Bytecode) : Type 0 
 -- the sets of both edges of r at offset k are put into a table
 pub record BothLost (targets info : List ℕ) (refs k : ℕ) (r : Bytecode) (old new : List ℕ) : Type 0 where
   pub long : length new ≡ length old
-  pub one : setAt new (2 * k) ≡ lostBy targets info refs (2 * k) r
-  pub two : setAt new (2 * k + 1) ≡ lostBy targets info refs (2 * k + 1) r
-  pub others : (e : ℕ) → e < 2 * k → setAt new e ≡ setAt old e
+  pub one : storedSet new (2 * k) ≡ lostBy targets info refs (2 * k) r
+  pub two : storedSet new (2 * k + 1) ≡ lostBy targets info refs (2 * k + 1) r
+  pub others : (e : ℕ) → e < 2 * k → storedSet new e ≡ storedSet old e
 
 -- what edge e loses by the table
 abbrev pub lostAt : List ℕ → ℕ → List ℕ
-lostAt lost e = members maxLocals (setAt lost e)
+lostAt lost e = members maxLocals (storedSet lost e)
 
 -- ---- the tables
 
@@ -97,7 +97,7 @@ pub record EdgeTable (s lost : List ℕ) (n : ℕ) : Type 0 where
   pub edges : 2 * n * setWords ≤ length lost
 
 -- and one of what becomes of its offsets: behind a merged Call stands another
-pub record Tables (s fates lost : List ℕ) (n : ℕ) : Type 0 where
+pub record PlanTables (s fates lost : List ℕ) (n : ℕ) : Type 0 where
   pub edge : EdgeTable s lost n
   pub offsets : n ≤ length fates
   pub behind : (k : ℕ) → k < n → getD fates k 0 ≡ 2 → k + 1 < n
@@ -164,7 +164,7 @@ codeBy code fates lost n first = joins n (keptBy code fates lost first) ++ joins
 -- ---- what must fit
 
 -- room for the block of the references m: its label, its attribute ids and its records
-pub record BlockRoom (x : Next) (m size : ℕ) : Type 0 where
+pub record NewBlockRoom (x : Next) (m size : ℕ) : Type 0 where
   pub some : m ≡ 0 → ⊥
   pub small : m < 2 ^ maxLocals
   pub label : x .label ≤ maxNumber

@@ -17,7 +17,7 @@ use Rattle.base.specs.Bytes.{number, part}
 use Rattle.base.specs.ListLaws.{by-test, getD-tab}
 use Rattle.dataflow_domains.specs.Mask.{holds}
 use Rattle.stackless_bytecode.specs.declared.Bytecode.{Bytecode}
-use Rattle.stackless_bytecode.specs.Kinds.{at}
+use Rattle.stackless_bytecode.specs.Kinds.{Assign, Call, Load, at}
 use Rattle.sheet.specs.Layout.{codeOf, instructionAt, recordStart}
 use Rattle.sheet.specs.CheckLaws.{code-length}
 use Rattle.sheet.specs.ValidLaws.{accepted-valid}
@@ -60,7 +60,7 @@ all-true e p q r t = rw (p, q, r, t)
 -- a Call r, a behind it, and the sets of a
 abbrev mergedBy : Bytecode → Bytecode → LiveVarInfo → Bool
 mergedBy r a i =
-    eqb (r .kind) 1 && eqb (r .ndst) 1 && eqb (a .kind) 0 && eqb (getD (a .srcs) 0 0) (getD (r .dsts) 0 0) && not (holds (i .after) (getD (r .dsts) 0 0))
+    eqb (r .kind) Call && eqb (r .ndst) 1 && eqb (a .kind) Assign && eqb (getD (a .srcs) 0 0) (getD (r .dsts) 0 0) && not (holds (i .after) (getD (r .dsts) 0 0))
 
 module _ {s info : List ℕ} {n : ℕ} (h : Known s info n) where
   pub size : length (codeOf s) ≡ n
@@ -93,7 +93,7 @@ module _ {s info : List ℕ} {n : ℕ} (h : Known s info n) where
   pub dead-at : (k : ℕ) (r : Bytecode) → k < n → r ≡ instructionAt s k → isDead (codeOf s) (infosOf n info) k ≡ deadIn r (sidesAt info k)
   unfolding isDead deadIn
   dead-at k r l e =
-      ap₂ (λ (x : Bytecode) (i : LiveVarInfo). (eqb (x .kind) 0 || eqb (x .kind) 3) && not (holds (i .after) (getD (x .dsts) 0 0))) (here k l ∙ sym e) (sides-are info n k l)
+      ap₂ (λ (x : Bytecode) (i : LiveVarInfo). (eqb (x .kind) Assign || eqb (x .kind) Load) && not (holds (i .after) (getD (x .dsts) 0 0))) (here k l ∙ sym e) (sides-are info n k l)
 
   -- ---- is_merged
 
@@ -103,7 +103,7 @@ module _ {s info : List ℕ} {n : ℕ} (h : Known s info n) where
       (λ e q. absurd (f (is-merged (codeOf s) (infosOf n info) k e))) (λ e q. refl) refl
 
   -- r is no Call, or has not one destination
-  pub merged-call : (k : ℕ) (r : Bytecode) → k < n → r ≡ instructionAt s k → (r .kind ≡ 1 → ⊥) → false ≡ isMerged (codeOf s) (infosOf n info) k
+  pub merged-call : (k : ℕ) (r : Bytecode) → k < n → r ≡ instructionAt s k → (r .kind ≡ Call → ⊥) → false ≡ isMerged (codeOf s) (infosOf n info) k
   merged-call k r l e f = merged-none k (λ m. f (ap (λ (x : Bytecode). x .kind) (e ∙ sym (here k l)) ∙ m .call))
 
   pub merged-single : (k : ℕ) (r : Bytecode) → k < n → r ≡ instructionAt s k → (r .ndst ≡ 1 → ⊥) → false ≡ isMerged (codeOf s) (infosOf n info) k
@@ -117,7 +117,7 @@ module _ {s info : List ℕ} {n : ℕ} (h : Known s info n) where
   behind : (k : ℕ) (a : Bytecode) → k + 1 < n → a ≡ instructionAt s (k + 1) → a ≡ at (codeOf s) (suc k)
   behind k a l e = e ∙ sym (here (k + 1) l) ∙ ap (at (codeOf s)) (add-one k)
 
-  pub merged-assign : (k : ℕ) (a : Bytecode) → k + 1 < n → a ≡ instructionAt s (k + 1) → (a .kind ≡ 0 → ⊥) → false ≡ isMerged (codeOf s) (infosOf n info) k
+  pub merged-assign : (k : ℕ) (a : Bytecode) → k + 1 < n → a ≡ instructionAt s (k + 1) → (a .kind ≡ Assign → ⊥) → false ≡ isMerged (codeOf s) (infosOf n info) k
   merged-assign k a l e f = merged-none k (λ m. f (ap (λ (x : Bytecode). x .kind) (behind k a l e) ∙ m .assign))
 
   pub merged-from : (k : ℕ) (r a : Bytecode) → k + 1 < n → r ≡ instructionAt s k → a ≡ instructionAt s (k + 1) → (getD (a .srcs) 0 0 ≡ getD (r .dsts) 0 0 → ⊥)
@@ -129,7 +129,7 @@ module _ {s info : List ℕ} {n : ℕ} (h : Known s info n) where
   unfolding isMerged
   merged-is k = refl
 
-  pub merged-by : (k m : ℕ) (r a : Bytecode) (b : Bool) → k + 1 < n → r ≡ instructionAt s k → a ≡ instructionAt s (k + 1) → r .kind ≡ 1 → r .ndst ≡ 1 → a .kind ≡ 0
+  pub merged-by : (k m : ℕ) (r a : Bytecode) (b : Bool) → k + 1 < n → r ≡ instructionAt s k → a ≡ instructionAt s (k + 1) → r .kind ≡ Call → r .ndst ≡ 1 → a .kind ≡ Assign
       → getD (a .srcs) 0 0 ≡ getD (r .dsts) 0 0 → m ≡ sidesAt info (k + 1) .after → b ≡ holds m (getD (r .dsts) 0 0) → not b ≡ isMerged (codeOf s) (infosOf n info) k
   merged-by k m r a b l e g call one assign from f q =
       ap not (q ∙ ap (λ (x : ℕ). holds x (getD (r .dsts) 0 0)) f)
@@ -143,21 +143,21 @@ pub ranged : {s info : List ℕ} {n : ℕ} (h : Known s info n) (k : ℕ) (r : B
 ranged {s} h k r l e = subst InRange (sym e) (in-range s (h .accepted) k (omega (arith, h .count)))
 
 -- the destination of an Assign or a Load is a local
-pub dst-low : (r : Bytecode) → InRange r → (r .kind ≡ 0) ⊎ (r .kind ≡ 3) → getD (r .dsts) 0 0 < maxLocals
+pub dst-low : (r : Bytecode) → InRange r → (r .kind ≡ Assign) ⊎ (r .kind ≡ Load) → getD (r .dsts) 0 0 < maxLocals
 dst-low r i q = i .dsts .each 0 (⊎-elim (λ z. i .assign z) (λ z. i .load z) q)
 
-pub dead-by : (m : ℕ) (i : LiveVarInfo) (r : Bytecode) (b : Bool) → (r .kind ≡ 0) ⊎ (r .kind ≡ 3) → m ≡ i .after → b ≡ holds m (getD (r .dsts) 0 0) → not b ≡ deadIn r i
+pub dead-by : (m : ℕ) (i : LiveVarInfo) (r : Bytecode) (b : Bool) → (r .kind ≡ Assign) ⊎ (r .kind ≡ Load) → m ≡ i .after → b ≡ holds m (getD (r .dsts) 0 0) → not b ≡ deadIn r i
 unfolding deadIn
 dead-by m i r b q f g =
     ap not (g ∙ ap (λ (x : ℕ). holds x (getD (r .dsts) 0 0)) f) ∙ sym (ap (λ (t : Bool). t && not (holds (i .after) (getD (r .dsts) 0 0))) (either q))
   where
-    either : (r .kind ≡ 0) ⊎ (r .kind ≡ 3) → eqb (r .kind) 0 || eqb (r .kind) 3 ≡ true
+    either : (r .kind ≡ Assign) ⊎ (r .kind ≡ Load) → eqb (r .kind) Assign || eqb (r .kind) Load ≡ true
     either (inl z) = ap (λ (x : ℕ). eqb x 0 || eqb x 3) z
     either (inr z) = ap (λ (x : ℕ). eqb x 0 || eqb x 3) z
 
-pub dead-not : (i : LiveVarInfo) (r : Bytecode) → (r .kind ≡ 0 → ⊥) → (r .kind ≡ 3 → ⊥) → false ≡ deadIn r i
+pub dead-not : (i : LiveVarInfo) (r : Bytecode) → (r .kind ≡ Assign → ⊥) → (r .kind ≡ Load → ⊥) → false ≡ deadIn r i
 unfolding deadIn
-dead-not i r a b = sym (ap₂ (λ (x y : Bool). (x || y) && not (holds (i .after) (getD (r .dsts) 0 0))) (ne-eqb (r .kind) 0 a) (ne-eqb (r .kind) 3 b))
+dead-not i r a b = sym (ap₂ (λ (x y : Bool). (x || y) && not (holds (i .after) (getD (r .dsts) 0 0))) (ne-eqb (r .kind) Assign a) (ne-eqb (r .kind) Load b))
 
 -- ---- what becomes of an offset
 

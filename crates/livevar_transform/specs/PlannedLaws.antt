@@ -13,7 +13,7 @@ use Rattle.base.specs.Sizes.{maxNumber}
 use Rattle.base.specs.Lists.{count, total, joins}
 use Rattle.base.specs.ListLaws.{by-test, by-eq}
 use Rattle.stackless_bytecode.specs.declared.Bytecode.{Bytecode}
-use Rattle.stackless_bytecode.specs.Kinds.{at}
+use Rattle.stackless_bytecode.specs.Kinds.{Branch, at}
 use Rattle.sheet_writer.specs.SheetLaws.{joins-agree}
 use Rattle.livevar_analysis.specs.Analysis.{LiveVarInfo}
 use Rattle.livevar_transform.specs.declared.plan.Next.{Next}
@@ -66,7 +66,7 @@ module _ (code : List Bytecode) (info : List LiveVarInfo) (refs : ℕ) where
     stands-is : (k : ℕ) → k < n → standsAt code fates lost k (numbersAt first lost (2 * k)) ≡ standsFor code info refs k
     unfolding standsAt standsFor
     stands-is k l =
-        ap₂ (λ (x : Bytecode) (b : Bool). cond (eqb (at code k .kind) 4) x (cond b (into (at code k) (at code (suc k) .dsts)) (at code k))) (aimed-is k l)
+        ap₂ (λ (x : Bytecode) (b : Bool). cond (eqb (at code k .kind) Branch) x (cond b (into (at code k) (at code (suc k) .dsts)) (at code k))) (aimed-is k l)
         (ap (λ (x : ℕ). eqb x 2) (p .fate k l) ∙ fate-two code info k)
 
     kept-is : (k : ℕ) → k < n → keptBy code fates lost first k ≡ keptCode code info refs k

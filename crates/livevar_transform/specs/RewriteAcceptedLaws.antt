@@ -14,7 +14,7 @@ use Rattle.base.specs.Refusals.{Accepted, Refused, Verdict, Reply, Done, reply}
 use Rattle.base.specs.RefusalLaws.{passed, passed-whole}
 use Rattle.base.specs.Lists.{all, zeros}
 use Rattle.sheet.specs.Layout.{headingRest, localsOf, refsOf, codeOf, padded}
-use Rattle.stackless_bytecode.specs.Kinds.{dstsOf, srcsOf, nop, at, isFlagged}
+use Rattle.stackless_bytecode.specs.Kinds.{Call, Branch, Jump, Label, Destroy, dstsOf, srcsOf, nop, at, isFlagged}
 use Rattle.livevar_analysis.specs.Analysis.{LiveVarInfo}
 use Rattle.sheet.specs.declared.Shape.{Shape}
 use Rattle.sheet.specs.Checks.{shapes, noShape, fits, recordOk, localsOk, checkSheet}
@@ -54,19 +54,19 @@ into-fits f r ds e z =
     and-both (and-both (and-both (a .0) z) (b .1)) (c .1)
 
 -- a Branch's labels are free
-aimed-fits : (r : Bytecode) (x y : ℕ) → r .kind ≡ 4 → recordOk (aimed r x y) ≡ recordOk r
+aimed-fits : (r : Bytecode) (x y : ℕ) → r .kind ≡ Branch → recordOk (aimed r x y) ≡ recordOk r
 unfolding recordOk fits
 aimed-fits r x y e = rw e
 
-head-fits : (a l : ℕ) → recordOk (made 6 0 a l []) ≡ true
+head-fits : (a l : ℕ) → recordOk (made Label 0 a l []) ≡ true
 unfolding recordOk fits padded zeros
 head-fits a l = refl
 
-destroy-fits : (a x : ℕ) → recordOk (made 1 13 a 0 (x ∷ [])) ≡ true
+destroy-fits : (a x : ℕ) → recordOk (made Call Destroy a 0 (x ∷ [])) ≡ true
 unfolding recordOk fits padded zeros
 destroy-fits a x = refl
 
-last-fits : (a t : ℕ) → recordOk (made 5 0 a t []) ≡ true
+last-fits : (a t : ℕ) → recordOk (made Jump 0 a t []) ≡ true
 unfolding recordOk fits padded zeros
 last-fits a t = refl
 
@@ -89,15 +89,15 @@ made-encodes kind sub a l xs hk hs hl ha hone small = record {
   srcs = padded-size xs;
 }
 
-head-locals : (n a l : ℕ) → localsOk n (made 6 0 a l []) ≡ true
+head-locals : (n a l : ℕ) → localsOk n (made Label 0 a l []) ≡ true
 unfolding localsOk dstsOf srcsOf isFlagged all
 head-locals n a l = refl
 
-last-locals : (n a l : ℕ) → localsOk n (made 5 0 a l []) ≡ true
+last-locals : (n a l : ℕ) → localsOk n (made Jump 0 a l []) ≡ true
 unfolding localsOk dstsOf srcsOf isFlagged all
 last-locals n a l = refl
 
-destroy-locals : (n a x : ℕ) → x < n → localsOk n (made 1 13 a 0 (x ∷ [])) ≡ true
+destroy-locals : (n a x : ℕ) → x < n → localsOk n (made Call Destroy a 0 (x ∷ [])) ≡ true
 unfolding localsOk dstsOf srcsOf isFlagged all padded
 destroy-locals n a x h = ap (λ (b : Bool). b && true && true) (lt-ltb x n h)
 

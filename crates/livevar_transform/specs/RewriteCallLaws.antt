@@ -23,7 +23,7 @@ use Rattle.livevar_analysis.specs.Prepared.{LiveWritten}
 use Rattle.livevar_transform.specs.Rewrite.{sheetInfo, newCode, newSheet, numbersFit, rewriteReply}
 use Rattle.livevar_transform.specs.RewriteAccepted.{AcceptedRewriting}
 use Rattle.livevar_transform.specs.RewriteAcceptedLaws.{rewritten-accepted}
-use Rattle.livevar_transform.specs.RewriteWork.{Asked, acceptedReply, Answers}
+use Rattle.livevar_transform.specs.RewriteWork.{Asked, acceptedReply, RewriteAnswers}
 
 -- the bytes that live wrote are the sets that rewriting asks for
 pub asked : {s targets info info′ : List ℕ} {n r : ℕ} → CheckedSheet s n targets → LiveWritten s r info info′ → pairBytes * n ≤ length info′ → Asked s targets info′ n
@@ -67,7 +67,7 @@ pub record RewriteDone (s out : List ℕ) (r : Answer) (out′ : List ℕ) : Typ
   pub written : out′ ≡ outputAfter (rewriteReply s (length out)) out
   pub accepted : answerOf r .number ≡ 0 → AcceptedRewriting s (take (answerOf r .value) out′)
 
-pub rewrite-done : (s out : List ℕ) (r : Answer) (out′ : List ℕ) → Bytes s → checkSheet s ≡ Accepted → maxBytes ≤ length out → Answers s out r out′ → RewriteDone s out r out′
+pub rewrite-done : (s out : List ℕ) (r : Answer) (out′ : List ℕ) → Bytes s → checkSheet s ≡ Accepted → maxBytes ≤ length out → RewriteAnswers s out r out′ → RewriteDone s out r out′
 rewrite-done s out r out′ b e h a = record {
   result = a .result ∙ sym (ap resultOf d);
   written = a .written ∙ sym (ap (λ (x : Reply). outputAfter x out) d);

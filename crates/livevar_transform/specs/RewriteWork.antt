@@ -6,7 +6,7 @@ use Prim.Native.Nat.{ℕ, suc, _-_, _*_, _≤_}
 use lib.Dec.{eqb, leb}
 use lib.ListN.{length, replicate}
 use Rattle.base.specs.Sizes.{maxNumber, maxInstructions, maxBlocks}
-use Rattle.base.specs.Refusals.{check, whole, _then_, Reply, Done, reply, resultOf, answerOf, outputAfter}
+use Rattle.base.specs.Refusals.{Verdict, check, whole, _then_, Reply, Done, reply, resultOf, answerOf, outputAfter}
 use Rattle.base.specs.declared.Answer.{Answer}
 use Rattle.sheet.specs.Layout.{refsOf, codeOf}
 use Rattle.sheet_writer.specs.Written.{bodyBytes}
@@ -20,13 +20,16 @@ pub record Asked (s targets info : List ℕ) (n : ℕ) : Type 0 where
   pub ready : Ready s targets info n
   pub sets : infosOf n info ≡ sheetInfo s
 
+-- checks 10 and 11 of the new code: whether its numbers fit, and whether it is short enough
+abbrev pub checkNew : Bool → Bool → Verdict
+checkNew fits short = check 10 (whole fits) then check 11 (whole short)
+
 -- what is replied of an accepted sheet where enough is lent
 abbrev pub acceptedReply : List ℕ → Reply
-acceptedReply s =
-    reply (check 10 (whole (numbersFit (codeOf s) (sheetInfo s) (refsOf s))) then check 11 (whole (leb (length (newCode s)) maxInstructions))) (Done (length (newSheet s)) (newSheet s))
+acceptedReply s = reply (checkNew (numbersFit (codeOf s) (sheetInfo s) (refsOf s)) (leb (length (newCode s)) maxInstructions)) (Done (length (newSheet s)) (newSheet s))
 
 -- the answer, and the lent output after it
-pub record Answers (s before : List ℕ) (r : Answer) (after : List ℕ) : Type 0 where
+pub record RewriteAnswers (s before : List ℕ) (r : Answer) (after : List ℕ) : Type 0 where
   pub result : answerOf r ≡ resultOf (acceptedReply s)
   pub written : after ≡ outputAfter (acceptedReply s) before
 

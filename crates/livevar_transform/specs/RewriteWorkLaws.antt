@@ -4,16 +4,14 @@ use mathlib.Core.Bool.{Bool, true, false}
 use mathlib.Core.List.{List, _++_}
 use Prim.Native.Nat.{ℕ, _+_, _-_, _*_, _≤_, _<_}
 use native.Mathlib.Omega.{arith}
-use borrow.Author.Tests.{le-leb, lt-leb}
 use lib.Dec.{leb}
 use lib.ListN.{length, drop, length-replicate}
 use Rattle.base.specs.Sizes.{refsAt, setBytes, maxInstructions, maxBlocks}
 use Rattle.base.specs.Bytes.{number, part}
-use Rattle.base.specs.Refusals.{Done}
-use Rattle.base.specs.RefusalLaws.{accepted-whole, refused-whole}
-use Rattle.base.specs.ReplyLaws.{call-refused, call-goes, reply-refused, reply-done, refuses, done-result, done-output}
-use Rattle.base.specs.declared.Refusal.the-variants.{NumberTooHigh, CodeTooLong}
-use Rattle.base.specs.declared.Answer.the-variants.{Value, Refused}
+use Rattle.base.specs.Refusals.{numberOf, placeOf, Verdict, Accepted, Refused, Done, reply}
+use Rattle.base.specs.ReplyLaws.{reply-refused, reply-done, refuses, done-result, done-output}
+use Rattle.base.specs.declared.Refusal.{Refusal}
+use Rattle.base.specs.declared.Answer.the-variants as answer
 use Rattle.stackless_bytecode.specs.declared.Bytecode.{Bytecode}
 use Rattle.sheet.specs.Layout.{headingRest, refsOf, codeOf, sheetOf}
 use Rattle.sheet_writer.specs.Written.{placed, bodyBytes, Holds, SheetWritten}
@@ -22,11 +20,11 @@ use Rattle.livevar_analysis.specs.Analysis.{infosOf}
 use Rattle.livevar_transform.specs.declared.plan.Next.{Next}
 use Rattle.livevar_transform.specs.declared.plan.Counts.{Counts}
 use Rattle.livevar_transform.specs.Rewrite.{nextFreeLabel, nextFreeAttr, transformCode, sheetInfo, newCode, newSheet, numbersFit}
-use Rattle.livevar_transform.specs.Plan.{Ready, PlanRoom, Planned, Tables, Counted, codeBy}
+use Rattle.livevar_transform.specs.Plan.{Ready, PlanRoom, Planned, PlanTables, Counted, codeBy}
 use Rattle.livevar_transform.specs.PlanLaws.{size, merged-next, fate-merged}
 use Rattle.livevar_transform.specs.NumberLaws.{length-is, written-is}
 use Rattle.livevar_transform.specs.PlannedLaws.{code-is, fit-is}
-use Rattle.livevar_transform.specs.RewriteWork.{Asked, acceptedReply, Answers, fitBetween, Blank}
+use Rattle.livevar_transform.specs.RewriteWork.{Asked, checkNew, acceptedReply, RewriteAnswers, fitBetween, Blank}
 
 -- ---- the plan of what is asked, and the first numbers
 
@@ -34,7 +32,7 @@ pub refs-is : (s : List ℕ) (m : ℕ) → m ≡ number (part s refsAt setBytes)
 unfolding refsOf
 refs-is s m e = e
 
-pub tables : {s targets info : List ℕ} {n : ℕ} (h : Ready s targets info n) (refs : ℕ) (fates lost : List ℕ) → PlanRoom fates lost n → Planned (codeOf s) (infosOf n info) refs fates lost n → Tables s fates lost n
+pub tables : {s targets info : List ℕ} {n : ℕ} (h : Ready s targets info n) (refs : ℕ) (fates lost : List ℕ) → PlanRoom fates lost n → Planned (codeOf s) (infosOf n info) refs fates lost n → PlanTables s fates lost n
 tables h refs fates lost room p = record {
   edge = record { accepted = h .known .accepted; count = h .known .count; few = room .few; edges = room .edges };
   offsets = room .offsets;
@@ -46,8 +44,8 @@ module _ {s targets info : List ℕ} {n refs : ℕ} {fates lost : List ℕ} {fir
   new-is : codeBy (codeOf s) fates lost n first ≡ newCode s
   new-is = code-is (codeOf s) (infosOf n info) refs fates lost n first p (size (a .ready .known)) label attr ∙ ap₂ (transformCode (codeOf s)) (a .sets) mask
 
-  ten : (b : Bool) → fitBetween first (c .next) ≡ b → numbersFit (codeOf s) (sheetInfo s) (refsOf s) ≡ b
-  ten b e = sym (fit-is (codeOf s) (infosOf n info) refs fates lost n first p (size (a .ready .known)) label attr (c .next) (k .next) ∙ ap₂ (numbersFit (codeOf s)) (a .sets) mask) ∙ e
+  ten : numbersFit (codeOf s) (sheetInfo s) (refsOf s) ≡ fitBetween first (c .next)
+  ten = sym (fit-is (codeOf s) (infosOf n info) refs fates lost n first p (size (a .ready .known)) label attr (c .next) (k .next) ∙ ap₂ (numbersFit (codeOf s)) (a .sets) mask)
 
   pub long-is : c .kept + (c .next .attr - first .attr) ≡ length (codeBy (codeOf s) fates lost n first)
   long-is = length-is (codeOf s) first lost fates n (c .kept) (c .next) (k .kept) (k .next)
@@ -60,24 +58,24 @@ module _ {s targets info : List ℕ} {n refs : ℕ} {fates lost : List ℕ} {fir
 
   -- ---- what is answered
 
-  pub answers-high : (before : List ℕ) → fitBetween first (c .next) ≡ false → Answers s before (Refused NumberTooHigh) before
-  answers-high before e =
-      let r = refuses before (call-refused _ (Done (length (newSheet s)) (newSheet s)) (sym (refused-whole 10 (ten false e)))) in
-      record { result = r .result; written = r .same }
+  -- the verdict by the counts is that of the reply
+  module _ (fits : Bool) (is : fits ≡ fitBetween first (c .next)) where
+    abbrev verdict : Verdict
+    verdict = checkNew fits (leb (c .kept + (c .next .attr - first .attr)) maxInstructions)
 
-  pub answers-long : (before : List ℕ) → fitBetween first (c .next) ≡ true → maxInstructions < c .kept + (c .next .attr - first .attr) → Answers s before (Refused CodeTooLong) before
-  answers-long before e l =
-      let much : leb (length (newCode s)) maxInstructions ≡ false = lt-leb (length (newCode s)) maxInstructions (omega (arith, long)) in
-      let r = refuses before (call-goes _ (Done (length (newSheet s)) (newSheet s)) (sym (accepted-whole 10 (ten true e))) ∙ reply-refused _ (sym (refused-whole 11 much))) in
-      record { result = r .result; written = r .same }
+    reply-is : acceptedReply s ≡ reply verdict (Done (length (newSheet s)) (newSheet s))
+    reply-is = rw (ten, ← is, long)
 
-  pub answers-sheet : (l : ℕ) (before after : List ℕ) → fitBetween first (c .next) ≡ true → c .kept + (c .next .attr - first .attr) ≤ maxInstructions
-      → SheetWritten (sheetOf (headingRest s) (codeBy (codeOf s) fates lost n first)) before l after → Answers s before (Value l) after
-  answers-sheet l before after e f w =
-      let few : leb (length (newCode s)) maxInstructions ≡ true = le-leb (length (newCode s)) maxInstructions (omega (arith, long)) in
-      let r : acceptedReply s ≡ Done (length (newSheet s)) (newSheet s) = call-goes _ (Done (length (newSheet s)) (newSheet s)) (sym (accepted-whole 10 (ten true e))) ∙ reply-done _ (sym (accepted-whole 11 few)) in
-      let same = ap (sheetOf (headingRest s)) new-is in
-      record { result = done-result (w .long ∙ ap length same) r; written = done-output before refl r (w .is ∙ ap (λ (t : List ℕ). t ++ drop (length t) before) same) }
+    pub answers-refused : (before : List ℕ) (f : Refusal) → Refused (numberOf f) (placeOf f) ≡ verdict → RewriteAnswers s before (answer.Refused f) before
+    answers-refused before f e =
+        let r = refuses before (reply-is ∙ reply-refused _ (sym e)) in
+        record { result = r .result; written = r .same }
+
+    pub answers-sheet : (l : ℕ) (before after : List ℕ) → verdict ≡ Accepted → SheetWritten (sheetOf (headingRest s) (codeBy (codeOf s) fates lost n first)) before l after → RewriteAnswers s before (answer.Value l) after
+    answers-sheet l before after e w =
+        let r : acceptedReply s ≡ Done (length (newSheet s)) (newSheet s) = reply-is ∙ reply-done _ e in
+        let same = ap (sheetOf (headingRest s)) new-is in
+        record { result = done-result (w .long ∙ ap length same) r; written = done-output before refl r (w .is ∙ ap (λ (t : List ℕ). t ++ drop (length t) before) same) }
 
 -- ---- the records of the new code
 

@@ -10,7 +10,7 @@ use borrow.Author.Tests.{ltb-false}
 use lib.ListN.{getD, length}
 use Rattle.stackless_bytecode.specs.declared.Bytecode.{Bytecode}
 use Rattle.base.specs.Lists.{has}
-use Rattle.stackless_bytecode.specs.Kinds.{nop, at, isFlagged, fallsThrough, branchDests, labelOf}
+use Rattle.stackless_bytecode.specs.Kinds.{Branch, Jump, Label, nop, at, isFlagged, fallsThrough, branchDests, labelOf}
 use Rattle.stackless_bytecode.specs.Successors.{labelOffset, Unique}
 use Rattle.livevar_analysis.specs.Analysis.{LiveVarInfo}
 use Rattle.livevar_transform.specs.Rewrite.{made, aimed, blockSize, isDropped, targetOf, nextFreeLabel, lostRefs, isLosing, labelFor, attrFor, goesTo, standsFor, blockOn, transformCode}
@@ -94,27 +94,27 @@ module _ (code : List Bytecode) (info : List LiveVarInfo) (refs : ℕ) where
     offset-new e h s =
         let w : 0 < blockSize (lostRefs code info refs e) = omega (arith, size-is (lostRefs code info refs e) s) in
         let z : startOf code info refs e + 0 ≡ startOf code info refs e = omega arith in
-        let is : at (transformCode code info refs) (startOf code info refs e) ≡ made 6 0 (attrFor code info refs e) (labelFor code info refs e) [] = ap (at (transformCode code info refs)) (sym z) ∙ new-added code info refs e 0 h w ∙ first e s in
+        let is : at (transformCode code info refs) (startOf code info refs e) ≡ made Label 0 (attrFor code info refs e) (labelFor code info refs e) [] = ap (at (transformCode code info refs)) (sym z) ∙ new-added code info refs e 0 h w ∙ first e s in
         offset-is (transformCode code info refs) new-unique (startOf code info refs e) (labelFor code info refs e) (omega (arith, added-inside code info refs e 0 h w))
         (subst (λ (x : List ℕ). List·Memᴰ (labelFor code info refs e) x) (sym (ap labelOf is ∙ head-marks _ _)) (List·Memᴰ·head refl))
       where
-        first : (e : ℕ) → 0 < length (lostRefs code info refs e) → getD (blockOn code info refs e) 0 nop ≡ made 6 0 (attrFor code info refs e) (labelFor code info refs e) []
+        first : (e : ℕ) → 0 < length (lostRefs code info refs e) → getD (blockOn code info refs e) 0 nop ≡ made Label 0 (attrFor code info refs e) (labelFor code info refs e) []
         first e s = unfold blockOn in block-head (attrFor code info refs e) (labelFor code info refs e) (targetOf code e) (lostRefs code info refs e) s
 
     -- ---- where the edges go
 
     -- an edge that loses goes to its block, any other to where its target stands now
-    pub data Goes (e : ℕ) : Type 0 where
-      round : 0 < length (lostRefs code info refs e) → labelOffset (transformCode code info refs) (goesTo code info refs e) ≡ startOf code info refs e → Goes e
-      straight : lostRefs code info refs e ≡ [] → labelOffset (transformCode code info refs) (goesTo code info refs e) ≡ pos code info (labelOffset code (targetOf code e)) → Goes e
+    pub data GoesTo (e : ℕ) : Type 0 where
+      round : 0 < length (lostRefs code info refs e) → labelOffset (transformCode code info refs) (goesTo code info refs e) ≡ startOf code info refs e → GoesTo e
+      straight : lostRefs code info refs e ≡ [] → labelOffset (transformCode code info refs) (goesTo code info refs e) ≡ pos code info (labelOffset code (targetOf code e)) → GoesTo e
 
     empty : (xs : List ℕ) → length xs ≤ 0 → xs ≡ []
     empty [] h = refl
     empty (x ∷ xs) h = absurd (not-suc-le-zero h)
 
-    pub goes : (e : ℕ) → e < 2 * length code → Target (targetOf code e) → Goes e
+    pub goes : (e : ℕ) → e < 2 * length code → Target (targetOf code e) → GoesTo e
     goes e h t =
-        by-test (λ b. isLosing code info refs e ≡ b → Goes e) (isLosing code info refs e)
+        by-test (λ b. isLosing code info refs e ≡ b → GoesTo e) (isLosing code info refs e)
         (λ f q. round (losing-some code info refs e f) (ap (labelOffset (transformCode code info refs)) (away f) ∙ offset-new e h (losing-some code info refs e f)))
         (λ f q. straight (none f) (ap (labelOffset (transformCode code info refs)) (stays f) ∙ offset-old (targetOf code e) t)) refl
       where
@@ -132,7 +132,7 @@ module _ (code : List Bytecode) (info : List LiveVarInfo) (refs : ℕ) where
     -- what stands for offset k names the labels that its edges go to, or what it named
     pub data Names (k l : ℕ) : Type 0 where
       same : List·Memᴰ l (branchDests (at code k)) → at code k .kind ≢ 4 → Names k l
-      edge : (e : ℕ) → e / 2 ≡ k → e < 2 * length code → at code k .kind ≡ 4 → l ≡ goesTo code info refs e → Names k l
+      edge : (e : ℕ) → e / 2 ≡ k → e < 2 * length code → at code k .kind ≡ Branch → l ≡ goesTo code info refs e → Names k l
 
     pub stands-names : (k l : ℕ) → k < length code → List·Memᴰ l (branchDests (standsFor code info refs k)) → Names k l
     stands-names k l h =
@@ -142,11 +142,11 @@ module _ (code : List Bytecode) (info : List LiveVarInfo) (refs : ℕ) where
         (λ e i. same (unfold branchDests isFlagged in i) (λ q. omega (arith, is-merged code info k e .call)))
         (λ q e i. same i q)
 
-    edge-target-is : (k e : ℕ) → k < length code → e / 2 ≡ k → at code k .kind ≡ 4 → Target (targetOf code e)
+    edge-target-is : (k e : ℕ) → k < length code → e / 2 ≡ k → at code k .kind ≡ Branch → Target (targetOf code e)
     edge-target-is k e h s q =
         target (e / 2) (targetOf code e) (omega arith) (target-named code info refs e (ap (λ (x : ℕ). at code x .kind) s ∙ q))
 
-    goes-lt : (e : ℕ) → e < 2 * length code → Target (targetOf code e) → Goes e → labelOffset (transformCode code info refs) (goesTo code info refs e) < length (transformCode code info refs)
+    goes-lt : (e : ℕ) → e < 2 * length code → Target (targetOf code e) → GoesTo e → labelOffset (transformCode code info refs) (goesTo code info refs e) < length (transformCode code info refs)
     goes-lt e h t (round s q) = omega (arith, added-inside code info refs e 0 h (omega (arith, size-is (lostRefs code info refs e) s)))
     goes-lt e h t (straight s q) = omega (arith, pos-inside code info refs (labelOffset code (targetOf code e)) (t .inside) (t .kept))
 
@@ -191,7 +191,7 @@ module _ (code : List Bytecode) (info : List LiveVarInfo) (refs : ℕ) where
             → Part (attrFor code info refs e) (labelFor code info refs e) (targetOf code e) (lostRefs code info refs e) j (at (transformCode code info refs) p) → fallsThrough (at (transformCode code info refs) p) ≡ false
         closed-part e j p s (Part.head z q) = absurd (omega (arith, size-is (lostRefs code info refs e) (size-some (lostRefs code info refs e) (omega arith)), size-some (lostRefs code info refs e) (omega arith)))
         closed-part e j p s (Part.destroy i g z q) = absurd (omega (arith, size-is (lostRefs code info refs e) (size-some (lostRefs code info refs e) (omega arith))))
-        closed-part e j p s (Part.last z q) = ap fallsThrough q ∙ jump-falls (made 5 0 _ _ []) refl
+        closed-part e j p s (Part.last z q) = ap fallsThrough q ∙ jump-falls (made Jump 0 _ _ []) refl
 
         closed : (p : ℕ) → suc p ≡ length (transformCode code info refs) → Where code info refs p → fallsThrough (at (transformCode code info refs) p) ≡ false
         closed p h (Where.kept i b e s) =

@@ -10,7 +10,7 @@ use Rattle.dataflow_domains.specs.Mask.{holds, minus}
 use Rattle.stackless_bytecode.specs.declared.Bytecode.{Bytecode}
 use Rattle.base.specs.Sizes.{maxLocals}
 use Rattle.base.specs.Lists.{keep}
-use Rattle.stackless_bytecode.specs.Kinds.{at}
+use Rattle.stackless_bytecode.specs.Kinds.{Assign, Call, Load, Branch, at}
 use Rattle.stackless_bytecode.specs.Successors.{labelOffset}
 use Rattle.livevar_analysis.specs.Analysis.{LiveVarInfo}
 use Rattle.livevar_transform.specs.Rewrite.{aimed, into, destroyBlock, infoAt, nextFreeLabel, nextFreeAttr, labelFor, attrFor, addedCode, transformCode}
@@ -48,11 +48,11 @@ front rs d = record { code = rs ++ d .code; tail = d .tail }
 
 -- the Assign r takes its value from d, which is dead behind it
 unfoldable pub mergesInto : ℕ → Bytecode → LiveVarInfo → Bool
-mergesInto d r s = eqb (r .kind) 0 && eqb (getD (r .srcs) 0 0) d && not (holds (s .after) d)
+mergesInto d r s = eqb (r .kind) Assign && eqb (getD (r .srcs) 0 0) d && not (holds (s .after) d)
 
 -- what a Load or an Assign sets is dead
 unfoldable pub deadIn : Bytecode → LiveVarInfo → Bool
-deadIn r s = (eqb (r .kind) 0 || eqb (r .kind) 3) && not (holds (s .after) (getD (r .dsts) 0 0))
+deadIn r s = (eqb (r .kind) Assign || eqb (r .kind) Load) && not (holds (s .after) (getD (r .dsts) 0 0))
 
 module _ (code : List Bytecode) (info : List LiveVarInfo) (refs : ℕ) where
   -- the references in `after` that are not in the set before the label's offset, ascending
@@ -67,14 +67,14 @@ module _ (code : List Bytecode) (info : List LiveVarInfo) (refs : ℕ) where
       let s = infoAt info k in
       elim (deadIn r s) [
         | true ↦ walk rs (suc k) false t
-        | false ↦ elim (eqb (r .kind) 4) [
+        | false ↦ elim (eqb (r .kind) Branch) [
           | true ↦
               let lost1 = lostTo (s .after) (r .one) in
               let t1 = edgeTail t (r .one) lost1 in
               let lost2 = lostTo (s .after) (r .two) in
               let t2 = edgeTail t1 (r .two) lost2 in
               front (aimed r (edgeLabel t (r .one) lost1) (edgeLabel t1 (r .two) lost2) ∷ []) (walk rs (suc k) false t2)
-          | false ↦ elim (eqb (r .kind) 1 && eqb (r .ndst) 1 && mergesInto (getD (r .dsts) 0 0) (at code (suc k)) (infoAt info (suc k))) [
+          | false ↦ elim (eqb (r .kind) Call && eqb (r .ndst) 1 && mergesInto (getD (r .dsts) 0 0) (at code (suc k)) (infoAt info (suc k))) [
             | true ↦ front (into r (at code (suc k) .dsts) ∷ []) (walk rs (suc k) true t)
             | false ↦ front (r ∷ []) (walk rs (suc k) false t)
           ]

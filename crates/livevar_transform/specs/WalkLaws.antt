@@ -15,7 +15,7 @@ use Rattle.dataflow_domains.specs.Mask.{holds, minus}
 use Rattle.stackless_bytecode.specs.declared.Bytecode.{Bytecode}
 use Rattle.base.specs.Sizes.{maxLocals}
 use Rattle.base.specs.Lists.{keep, count, total, joins}
-use Rattle.stackless_bytecode.specs.Kinds.{nop, at}
+use Rattle.stackless_bytecode.specs.Kinds.{Assign, Call, Branch, nop, at}
 use Rattle.stackless_bytecode.specs.Successors.{labelOffset}
 use Rattle.livevar_analysis.specs.Analysis.{LiveVarInfo}
 use Rattle.livevar_transform.specs.Rewrite.{aimed, into, destroyBlock, blockSize, infoAt, isDead, isMerged, isDropped, targetOf, nextFreeLabel, nextFreeAttr, lostRefs, isLosing, labelFor, attrFor, goesTo, standsFor, keptCode, blockOn, addedCode, transformCode}
@@ -83,30 +83,30 @@ module _ (code : List Bytecode) (info : List LiveVarInfo) (refs : ℕ) where
 
   -- ---- the references by edge
 
-  lost-branch : (k e : ℕ) → at code k .kind ≡ 4 → e / 2 ≡ k → lostTo code info refs (infoAt info k .after) (targetOf code e) ≡ lostRefs code info refs e
+  lost-branch : (k e : ℕ) → at code k .kind ≡ Branch → e / 2 ≡ k → lostTo code info refs (infoAt info k .after) (targetOf code e) ≡ lostRefs code info refs e
   unfolding lostTo lostRefs
   lost-branch k e q s =
       ap (λ (x : ℕ). keep maxLocals 0 (holds (minus (bitAnd (infoAt info x .after) refs) (infoAt info (labelOffset code (targetOf code e)) .before)))) (sym s)
-      ∙ sym (ap (λ (b : Bool). elim b as (λ _. List ℕ) [ true ↦ keep maxLocals 0 (holds (minus (bitAnd (infoAt info (e / 2) .after) refs) (infoAt info (labelOffset code (targetOf code e)) .before))) | false ↦ [] ]) (eq-eqb (at code (e / 2) .kind) 4 (ap (λ (x : ℕ). at code x .kind) s ∙ q)))
+      ∙ sym (ap (λ (b : Bool). elim b as (λ _. List ℕ) [ true ↦ keep maxLocals 0 (holds (minus (bitAnd (infoAt info (e / 2) .after) refs) (infoAt info (labelOffset code (targetOf code e)) .before))) | false ↦ [] ]) (eq-eqb (at code (e / 2) .kind) Branch (ap (λ (x : ℕ). at code x .kind) s ∙ q)))
 
   lost-other : (k e : ℕ) → at code k .kind ≢ 4 → e / 2 ≡ k → lostRefs code info refs e ≡ []
   unfolding lostRefs
   lost-other k e q s =
-      ap (λ (b : Bool). elim b as (λ _. List ℕ) [ true ↦ keep maxLocals 0 (holds (minus (bitAnd (infoAt info (e / 2) .after) refs) (infoAt info (labelOffset code (targetOf code e)) .before))) | false ↦ [] ]) (ne-eqb (at code (e / 2) .kind) 4 (λ z. q (sym (ap (λ (x : ℕ). at code x .kind) s) ∙ z)))
+      ap (λ (b : Bool). elim b as (λ _. List ℕ) [ true ↦ keep maxLocals 0 (holds (minus (bitAnd (infoAt info (e / 2) .after) refs) (infoAt info (labelOffset code (targetOf code e)) .before))) | false ↦ [] ]) (ne-eqb (at code (e / 2) .kind) Branch (λ z. q (sym (ap (λ (x : ℕ). at code x .kind) s) ∙ z)))
 
   tail-other : (k : ℕ) → at code k .kind ≢ 4 → tailAt (suc k) ≡ tailAt k
   unfolding tailAt
   tail-other k q =
       tail-next k ∙ edge-none (suc (2 * k)) (lost-other k (suc (2 * k)) q (omega arith)) ∙ edge-none (2 * k) (lost-other k (2 * k) q (omega arith))
 
-  tail-branch : (k : ℕ) → at code k .kind ≡ 4 → tailAt (suc k) ≡ edgeTail (edgeTail (tailAt k) (at code k .one) (lostTo code info refs (infoAt info k .after) (at code k .one))) (at code k .two) (lostTo code info refs (infoAt info k .after) (at code k .two))
+  tail-branch : (k : ℕ) → at code k .kind ≡ Branch → tailAt (suc k) ≡ edgeTail (edgeTail (tailAt k) (at code k .one) (lostTo code info refs (infoAt info k .after) (at code k .one))) (at code k .two) (lostTo code info refs (infoAt info k .after) (at code k .two))
   unfolding tailAt
   tail-branch k q =
       tail-next k ∙ sym (edge-step (suc (2 * k)))
       ∙ ap₂ (λ (t : Tail) (l : List ℕ). edgeTail t (targetOf code (suc (2 * k))) l) (sym (edge-step (2 * k)) ∙ ap (edgeTail (edgeAt (2 * k)) (targetOf code (2 * k))) (sym (lost-branch k (2 * k) q (omega arith)))) (sym (lost-branch k (suc (2 * k)) q (omega arith)))
       ∙ ap₂ (λ (x y : ℕ). edgeTail (edgeTail (edgeAt (2 * k)) x (lostTo code info refs (infoAt info k .after) x)) y (lostTo code info refs (infoAt info k .after) y)) (edge-target code info refs k) (edge-target-else code info refs k)
 
-  goes-branch : (k : ℕ) → at code k .kind ≡ 4
+  goes-branch : (k : ℕ) → at code k .kind ≡ Branch
       → (edgeLabel (tailAt k) (at code k .one) (lostTo code info refs (infoAt info k .after) (at code k .one)) ≡ goesTo code info refs (2 * k))
       × (edgeLabel (edgeTail (tailAt k) (at code k .one) (lostTo code info refs (infoAt info k .after) (at code k .one))) (at code k .two) (lostTo code info refs (infoAt info k .after) (at code k .two)) ≡ goesTo code info refs (suc (2 * k)))
   unfolding tailAt
@@ -130,7 +130,7 @@ module _ (code : List Bytecode) (info : List LiveVarInfo) (refs : ℕ) where
   skip-dropped zero = by-test (λ b. b ≡ b || false) (isDead code info 0) (λ e. refl) (λ e. refl)
   skip-dropped (suc k) = refl
 
-  skip-kind : (k : ℕ) → skipAt k ≡ true → at code k .kind ≡ 0
+  skip-kind : (k : ℕ) → skipAt k ≡ true → at code k .kind ≡ Assign
   unfolding skipAt
   skip-kind zero e = absurd (true≢false (sym e))
   skip-kind (suc k) e = is-merged code info k e .assign
@@ -152,13 +152,13 @@ module _ (code : List Bytecode) (info : List LiveVarInfo) (refs : ℕ) where
         ]
       ]
 
-  merges-is : (k : ℕ) → eqb (at code k .kind) 1 && eqb (at code k .ndst) 1 && mergesInto (getD (at code k .dsts) 0 0) (at code (suc k)) (infoAt info (suc k)) ≡ isMerged code info k
+  merges-is : (k : ℕ) → eqb (at code k .kind) Call && eqb (at code k .ndst) 1 && mergesInto (getD (at code k .dsts) 0 0) (at code (suc k)) (infoAt info (suc k)) ≡ isMerged code info k
   unfolding mergesInto isMerged
-  merges-is k = regroup (eqb (at code k .kind) 1 && eqb (at code k .ndst) 1) _ _ _
+  merges-is k = regroup (eqb (at code k .kind) Call && eqb (at code k .ndst) 1) _ _ _
 
-  pick-is : (k : ℕ) (rs : List Bytecode) (t : Tail) → walk code info refs (at code k ∷ rs) k false t ≡ pick (at code k) rs k t (isDead code info k) (eqb (at code k .kind) 4) (isMerged code info k)
+  pick-is : (k : ℕ) (rs : List Bytecode) (t : Tail) → walk code info refs (at code k ∷ rs) k false t ≡ pick (at code k) rs k t (isDead code info k) (eqb (at code k .kind) Branch) (isMerged code info k)
   unfolding walk pick deadIn isDead
-  pick-is k rs t = ap (pick (at code k) rs k t (isDead code info k) (eqb (at code k .kind) 4)) (merges-is k)
+  pick-is k rs t = ap (pick (at code k) rs k t (isDead code info k) (eqb (at code k .kind) Branch)) (merges-is k)
 
   -- what offset k gives, in front of what the rest gives
   record Step (k : ℕ) (rs : List Bytecode) : Type 0 where
@@ -203,7 +203,7 @@ module _ (code : List Bytecode) (info : List LiveVarInfo) (refs : ℕ) where
           either true = refl
           either false = refl
 
-      start : skipAt k ≡ false → (a b c : Bool) → isDead code info k ≡ a → eqb (at code k .kind) 4 ≡ b → isMerged code info k ≡ c
+      start : skipAt k ≡ false → (a b c : Bool) → isDead code info k ≡ a → eqb (at code k .kind) Branch ≡ b → isMerged code info k ≡ c
           → walk code info refs (at code k ∷ rs) k (skipAt k) (tailAt k) ≡ pick (at code k) rs k (tailAt k) a b c
       start e a b c p q r =
           ap (λ (x : Bool). walk code info refs (at code k ∷ rs) k x (tailAt k)) e ∙ pick-is k rs (tailAt k)
@@ -219,37 +219,37 @@ module _ (code : List Bytecode) (info : List LiveVarInfo) (refs : ℕ) where
           record {
             gives = [];
             kept = kept-none k (skip-dropped k ∙ ap (λ (b : Bool). b || skipAt k) d);
-            is = start e true (eqb (at code k .kind) 4) (isMerged code info k) d refl refl ∙ (unfold pick in off (λ z. ⊎-elim (λ x. omega arith) (λ x. omega arith) kinds) (λ z. ⊎-elim (λ x. omega arith) (λ x. omega arith) kinds));
+            is = start e true (eqb (at code k .kind) Branch) (isMerged code info k) d refl refl ∙ (unfold pick in off (λ z. ⊎-elim (λ x. omega arith) (λ x. omega arith) kinds) (λ z. ⊎-elim (λ x. omega arith) (λ x. omega arith) kinds));
           }
 
-      branch : skipAt k ≡ false → isDead code info k ≡ false → at code k .kind ≡ 4 → Step k rs
+      branch : skipAt k ≡ false → isDead code info k ≡ false → at code k .kind ≡ Branch → Step k rs
       branch e d q =
           let g = goes-branch k q in
           let r = at code k in
           record {
             gives = aimed r (edgeLabel (tailAt k) (r .one) (lostTo code info refs (infoAt info k .after) (r .one))) (edgeLabel (edgeTail (tailAt k) (r .one) (lostTo code info refs (infoAt info k .after) (r .one))) (r .two) (lostTo code info refs (infoAt info k .after) (r .two))) ∷ [];
             kept = kept-one k (stays e d) _ (stands-branch q ∙ ap₂ (aimed r) (sym (g .0)) (sym (g .1)));
-            is = start e false true (isMerged code info k) d (eq-eqb (at code k .kind) 4 q) refl ∙ on q;
+            is = start e false true (isMerged code info k) d (eq-eqb (at code k .kind) Branch q) refl ∙ on q;
           }
         where
-          stands-branch : at code k .kind ≡ 4 → standsFor code info refs k ≡ aimed (at code k) (goesTo code info refs (2 * k)) (goesTo code info refs (suc (2 * k)))
+          stands-branch : at code k .kind ≡ Branch → standsFor code info refs k ≡ aimed (at code k) (goesTo code info refs (2 * k)) (goesTo code info refs (suc (2 * k)))
           stands-branch q = by-stands code info refs (λ x. x ≡ aimed (at code k) (goesTo code info refs (2 * k)) (goesTo code info refs (suc (2 * k)))) k (λ z. refl) (λ z. absurd (omega (arith, is-merged code info k z .call))) (λ z m. absurd (z q))
 
-          on : at code k .kind ≡ 4 → pick (at code k) rs k (tailAt k) false true (isMerged code info k) ≡ front (aimed (at code k) (edgeLabel (tailAt k) (at code k .one) (lostTo code info refs (infoAt info k .after) (at code k .one))) (edgeLabel (edgeTail (tailAt k) (at code k .one) (lostTo code info refs (infoAt info k .after) (at code k .one))) (at code k .two) (lostTo code info refs (infoAt info k .after) (at code k .two))) ∷ []) (walk code info refs rs (suc k) (isMerged code info k) (tailAt (suc k)))
+          on : at code k .kind ≡ Branch → pick (at code k) rs k (tailAt k) false true (isMerged code info k) ≡ front (aimed (at code k) (edgeLabel (tailAt k) (at code k .one) (lostTo code info refs (infoAt info k .after) (at code k .one))) (edgeLabel (edgeTail (tailAt k) (at code k .one) (lostTo code info refs (infoAt info k .after) (at code k .one))) (at code k .two) (lostTo code info refs (infoAt info k .after) (at code k .two))) ∷ []) (walk code info refs rs (suc k) (isMerged code info k) (tailAt (suc k)))
           on q = unfold pick in ap₂ (λ (x : Bool) (t : Tail). front (aimed (at code k) (edgeLabel (tailAt k) (at code k .one) (lostTo code info refs (infoAt info k .after) (at code k .one))) (edgeLabel (edgeTail (tailAt k) (at code k .one) (lostTo code info refs (infoAt info k .after) (at code k .one))) (at code k .two) (lostTo code info refs (infoAt info k .after) (at code k .two))) ∷ []) (walk code info refs rs (suc k) x t)) (sym (not-call k (λ z. omega arith))) (sym (tail-branch k q))
 
       merged : skipAt k ≡ false → isDead code info k ≡ false → at code k .kind ≢ 4 → isMerged code info k ≡ true → Step k rs
       merged e d g m = record {
         gives = into (at code k) (at code (suc k) .dsts) ∷ [];
         kept = kept-one k (stays e d) _ (by-stands code info refs (λ x. x ≡ into (at code k) (at code (suc k) .dsts)) k (λ z. absurd (g z)) (λ z. refl) (λ z n. absurd (true≢false (sym m ∙ n))));
-        is = start e false false true d (ne-eqb (at code k .kind) 4 g) m ∙ (unfold pick in ap₂ (λ (x : Bool) (t : Tail). front (into (at code k) (at code (suc k) .dsts) ∷ []) (walk code info refs rs (suc k) x t)) (sym m) (sym (tail-other k g)));
+        is = start e false false true d (ne-eqb (at code k .kind) Branch g) m ∙ (unfold pick in ap₂ (λ (x : Bool) (t : Tail). front (into (at code k) (at code (suc k) .dsts) ∷ []) (walk code info refs rs (suc k) x t)) (sym m) (sym (tail-other k g)));
       }
 
       plain : skipAt k ≡ false → isDead code info k ≡ false → at code k .kind ≢ 4 → isMerged code info k ≡ false → Step k rs
       plain e d g m = record {
         gives = at code k ∷ [];
         kept = kept-one k (stays e d) _ (by-stands code info refs (λ x. x ≡ at code k) k (λ z. absurd (g z)) (λ z. absurd (true≢false (sym z ∙ m))) (λ z n. refl));
-        is = start e false false false d (ne-eqb (at code k .kind) 4 g) m ∙ (unfold pick in ap₂ (λ (x : Bool) (t : Tail). front (at code k ∷ []) (walk code info refs rs (suc k) x t)) (sym m) (sym (tail-other k g)));
+        is = start e false false false d (ne-eqb (at code k .kind) Branch g) m ∙ (unfold pick in ap₂ (λ (x : Bool) (t : Tail). front (at code k ∷ []) (walk code info refs rs (suc k) x t)) (sym m) (sym (tail-other k g)));
       }
 
   -- ---- the whole walk

@@ -1,5 +1,3 @@
 // Rewriting of code by its live sets. Assumes nothing.
 pub mod plan; // plan.rt: what becomes of each offset, what each edge loses, and the count
 pub mod instructions; // instructions.rt: instructions made or changed
-pub mod write; // write.rt: the new code by its plan
-pub mod rewrite; // rewrite.rt: the new sheet, and the call rewrite

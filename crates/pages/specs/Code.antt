@@ -90,9 +90,9 @@ counts s =
     ++ ascii " references"
 
 -- the counts, and the locals that are references
-unfoldable pub heading : List ℕ → List ℕ
-heading s = counts s ++ localsIn (refsOf s) ++ ascii "\n"
+unfoldable pub headingText : List ℕ → List ℕ
+headingText s = counts s ++ localsIn (refsOf s) ++ ascii "\n"
 
 -- the heading, and a line for each instruction
 unfoldable pub codeText : List ℕ → List ℕ
-codeText s = heading s ++ joins (length (codeOf s)) (λ k. codeLine k (at (codeOf s) k))
+codeText s = headingText s ++ joins (length (codeOf s)) (λ k. codeLine k (at (codeOf s) k))

@@ -25,7 +25,7 @@ use Rattle.stackless_control_flow_graph.specs.CheckedSheetLaws.{accepted-at}
 use Rattle.listing.specs.Words.{ascii, decimal, said}
 use Rattle.pages.specs.Words.{word, marked, listed}
 use Rattle.pages.specs.WordLaws.{listed-snoc}
-use Rattle.pages.specs.Code.{verbs, assigns, operations, constants, props, names, destinations, branchLabels, labels, sources, aborting, does, takes, codeLine, localsIn, counts, heading, codeText}
+use Rattle.pages.specs.Code.{verbs, assigns, operations, constants, props, names, destinations, branchLabels, labels, sources, aborting, does, takes, codeLine, localsIn, counts, headingText, codeText}
 use Rattle.pages.specs.Parts.{localShown, localsBelow, codeLines}
 
 -- ---- names
@@ -145,8 +145,8 @@ pub counts-is : (s : List ℕ) → said (ascii "locals ") (u16At s 6) ++ said (a
 unfolding counts localsOf userLocalsOf parametersOf
 counts-is s = refl
 
-pub heading-is : (s : List ℕ) → counts s ++ localsIn (number (part s refsAt setBytes)) ++ ascii "\n" ≡ heading s
-unfolding heading refsOf
+pub heading-is : (s : List ℕ) → counts s ++ localsIn (number (part s refsAt setBytes)) ++ ascii "\n" ≡ headingText s
+unfolding headingText refsOf
 heading-is s = refl
 
 -- ---- the lines
@@ -161,9 +161,9 @@ lines-more s k r e h q =
     ap (λ (x : Bytecode). codeLines s k ++ codeLine k x) (q ∙ sym (accepted-at s e k h))
     ∙ ap (λ (n : ℕ). joins n (λ k. codeLine k (at (codeOf s) k))) (sym (add-one k))
 
-pub lines-all : (s : List ℕ) (k : ℕ) → k ≡ length (codeOf s) → heading s ++ codeLines s k ≡ codeText s
+pub lines-all : (s : List ℕ) (k : ℕ) → k ≡ length (codeOf s) → headingText s ++ codeLines s k ≡ codeText s
 unfolding codeLines codeText
-lines-all s k e = ap (λ (n : ℕ). heading s ++ joins n (λ k. codeLine k (at (codeOf s) k))) e
+lines-all s k e = ap (λ (n : ℕ). headingText s ++ joins n (λ k. codeLine k (at (codeOf s) k))) e
 
 -- the heading of an accepted sheet is there
 pub heading-there : (s : List ℕ) → checkSheet s ≡ Accepted → blockBytes ≤ length s

@@ -24,7 +24,7 @@ use Rattle.sheet_writer.specs.BodyLaws.{accepted-body}
 use Rattle.listing.specs.Words.{ascii, decimal, said}
 use Rattle.listing.specs.NumberLaws.{decimal-short}
 use Rattle.pages.specs.Words.{word, marked, listed}
-use Rattle.pages.specs.Code.{verbs, assigns, operations, constants, props, names, destinations, branchLabels, labels, sources, aborting, does, takes, codeLine, localsIn, counts, heading, codeText}
+use Rattle.pages.specs.Code.{verbs, assigns, operations, constants, props, names, destinations, branchLabels, labels, sources, aborting, does, takes, codeLine, localsIn, counts, headingText, codeText}
 use Rattle.pages.specs.Size.{numberDigits, payloadDigits, localDigits, localsBytes, headingBytes, codeLineBytes, codeBytes}
 
 -- ---- numbers and words
@@ -221,8 +221,8 @@ module _ (s : List ℕ) (bytes : Bytes s) (accepted : checkSheet s ≡ Accepted)
         said-most (ascii " parameters ") (parametersOf s) numberDigits (number-most (parametersOf s) (omega (arith, v .locals, v .users, v .params))),
       )
 
-  heading-most : length (heading s) ≤ headingBytes
-  unfolding heading
+  heading-most : length (headingText s) ≤ headingBytes
+  unfolding headingText
   heading-most =
       omega (arith, length-append (counts s ++ localsIn (refsOf s)) (ascii "\n"), length-append (counts s) (localsIn (refsOf s)), counts-most, locals-most (refsOf s))
 
@@ -231,7 +231,7 @@ module _ (s : List ℕ) (bytes : Bytes s) (accepted : checkSheet s ≡ Accepted)
   code-most =
       omega (
         arith,
-        length-append (heading s) (joins (length (codeOf s)) (λ k. codeLine k (at (codeOf s) k))),
+        length-append (headingText s) (joins (length (codeOf s)) (λ k. codeLine k (at (codeOf s) k))),
         heading-most,
         joins-most codeLineBytes (length (codeOf s)) (λ k. codeLine k (at (codeOf s) k)) each,
         accepted-body s bytes accepted .few,

@@ -11,14 +11,14 @@ use Rattle.base.specs.declared.Answer.the-variants as answer
 use Rattle.base.specs.declared.Refusal.{Refusal}
 use Rattle.base.specs.Refusals.{numberOf, placeOf, Verdict, Accepted, Refused, Reply, No, Done, Result, resultOf, answerOf}
 use Rattle.base.specs.RefusalLaws.{lends-short, lends-enough}
-use Rattle.base.specs.ReplyLaws.{reply-refused, reply-done}
+use Rattle.base.specs.ReplyLaws.{reply-refused, reply-done, done-value, done-not, done-written}
 use Rattle.sheet.specs.Layout.{codeOf, localsOf}
 use Rattle.sheet.specs.Checks.{checkSheet}
 use Rattle.base.specs.Bytes.{Bytes}
 use Rattle.stackless_control_flow_graph.specs.Blocks.{blocksOf, flowTable}
 use Rattle.livevar_analysis.specs.Analysis.{analyze}
 use Rattle.livevar_transform.specs.Rewrite.{newSheet, rewriteReply}
-use Rattle.livevar_transform.specs.RewriteWork.{acceptedReply, Answers}
+use Rattle.livevar_transform.specs.RewriteWork.{acceptedReply, RewriteAnswers}
 use Rattle.livevar_transform.specs.RewriteAcceptedLaws.{rewritten-accepted}
 use Rattle.livevar_transform.specs.RewriteCallLaws.{rewrite-asked, replied}
 use Rattle.listing.specs.Words.{ascii}
@@ -26,11 +26,10 @@ use Rattle.listing.specs.Lines.{refusedText}
 use Rattle.pages.specs.Code.{codeText}
 use Rattle.pages.specs.Size.{pageBytes}
 use Rattle.pages.specs.Page.{flowText, liveText, rewrittenText, sections, pageBy, page, pageReply}
-use Rattle.pages.specs.SectionLaws.{done-value, done-not, done-written}
 
 -- ---- the rewritten code
 
-module _ (s out out′ : List ℕ) (a : Answer) (accepted : checkSheet s ≡ Accepted) (answers : Answers s out a out′) where
+module _ (s out out′ : List ℕ) (a : Answer) (accepted : checkSheet s ≡ Accepted) (answers : RewriteAnswers s out a out′) where
   asked : rewriteReply s maxBytes ≡ acceptedReply s
   asked = rewrite-asked s maxBytes accepted (omega arith)
 

@@ -11,11 +11,8 @@ use Rattle.base.specs.Sizes.{setBytes, pairBytes, rowNumbers, maxInstructions}
 use Rattle.base.specs.Lists.{joins}
 use Rattle.base.specs.ListLaws.{getD-tab}
 use Rattle.base.specs.Bytes.{number, part}
-use Rattle.base.specs.declared.Answer.{Answer}
-use Rattle.base.specs.declared.Answer.the-variants as answer
-use Rattle.base.specs.declared.Refusal.{Refusal}
-use Rattle.base.specs.Refusals.{Reply, Done, Result, resultOf, answerOf, outputAfter}
-use Rattle.base.specs.ReplyLaws.{refused-number}
+use Rattle.base.specs.Refusals.{Done, outputAfter}
+use Rattle.base.specs.ReplyLaws.{done-written}
 use Rattle.sheet.specs.Layout.{codeOf, localsOf}
 use Rattle.stackless_control_flow_graph.specs.Blocks.{blocksOf, flowTable, flowReply}
 use Rattle.stackless_control_flow_graph.specs.Arrays.{CheckedSheet}
@@ -31,26 +28,6 @@ use Rattle.pages.specs.Words.{marked}
 use Rattle.pages.specs.Code.{localsIn}
 use Rattle.pages.specs.Page.{boundsText, leadsText, blockLine, flowText, setText, liveLine, liveText}
 use Rattle.pages.specs.Parts.{blockLines, liveLines, beforeText}
-
--- ---- what a call answered, where its reply is done
-
-module _ (a : Answer) {r : Reply} {v : ℕ} {t : List ℕ} (answers : answerOf a ≡ resultOf r) (done : r ≡ Done v t) where
-  same : answerOf a ≡ record { number = 0; value = v }
-  unfolding resultOf
-  same = answers ∙ ap resultOf done
-
-  -- its value
-  pub done-value : {m : ℕ} → a ≡ answer.Value m → m ≡ v
-  done-value told = ap (λ (x : Result). x .value) (sym (ap answerOf told) ∙ same)
-
-  -- and no refusal
-  pub done-not : (f : Refusal) → a ≡ answer.Refused f → ⊥
-  done-not f told = refused-number f (ap (λ (x : Result). x .number) (sym (ap answerOf told) ∙ same))
-
--- what was written
-pub done-written : {r : Reply} {v : ℕ} {t out′ : List ℕ} (out : List ℕ) → out′ ≡ outputAfter r out → r ≡ Done v t → out′ ≡ t ++ drop (length t) out
-unfolding outputAfter
-done-written out w e = w ∙ ap (λ (x : Reply). outputAfter x out) e
 
 -- ---- blocks
 
@@ -99,17 +76,16 @@ flow-front m t z h =
 
 -- the table of a checked sheet
 module _ {s : List ℕ} {n : ℕ} {targets : List ℕ} (checked : CheckedSheet s n targets) (out : List ℕ) (long : length out ≡ rowNumbers * maxInstructions) where
-  pub flowed : flowReply s (length out) ≡ Done (blocksOf (codeOf s)) (flowTable (codeOf s))
+  flowed : flowReply s (length out) ≡ Done (blocksOf (codeOf s)) (flowTable (codeOf s))
   flowed = flow-done s (length out) (checked .accepted) (omega (arith, blocks-few (codeOf s), few-count s (length (codeOf s)) (checked .accepted) refl))
 
   pub record FlowWritten (m : ℕ) (out′ : List ℕ) : Type 0 where
     pub room : rowNumbers * m ≤ length out′
     pub text : flowText m out′ ≡ flowText (blocksOf (codeOf s)) (flowTable (codeOf s))
 
-  pub flow-written : (a : Answer) (m : ℕ) (out′ : List ℕ) → a ≡ answer.Value m → answerOf a ≡ resultOf (flowReply s (length out)) → out′ ≡ outputAfter (flowReply s (length out)) out → FlowWritten m out′
-  flow-written a m out′ told q w =
+  pub flow-written : (m : ℕ) (out′ : List ℕ) → m ≡ blocksOf (codeOf s) → out′ ≡ outputAfter (flowReply s (length out)) out → FlowWritten m out′
+  flow-written m out′ count w =
       let is : out′ ≡ flowTable (codeOf s) ++ drop (length (flowTable (codeOf s))) out = done-written out w flowed in
-      let count : m ≡ blocksOf (codeOf s) = done-value a q flowed told in
       let size : length (flowTable (codeOf s)) ≡ rowNumbers * blocksOf (codeOf s) = table-length (codeOf s) in
       record {
         room = omega (arith, ap length is, length-append (flowTable (codeOf s)) (drop (length (flowTable (codeOf s))) out));

@@ -8,7 +8,7 @@ ghost use Rattle.base.specs.Refusals.{Accepted};
 ghost use Rattle.sheet.specs.Checks.{checkSheet};
 ghost use Rattle.listing.specs.Output.{Wrote};
 ghost use Rattle.pages.specs.Words.{word};
-ghost use Rattle.pages.specs.Code.{verbs, names, destinations, branchLabels, labels, sources, aborting, does, takes, codeLine, localsIn, counts, heading, codeText};
+ghost use Rattle.pages.specs.Code.{verbs, names, destinations, branchLabels, labels, sources, aborting, does, takes, codeLine, localsIn, counts, headingText, codeText};
 ghost use Rattle.pages.specs.Parts.{localShown};
 use crate::words::put_listed;
 use crate::words::put_mark;
@@ -175,7 +175,7 @@ fn put_counts(s: &[u8], out: &mut [u8], at: usize) -> usize
 
 fn put_heading(s: &[u8], out: &mut [u8], at: usize) -> usize
     requires { ⌜ blockBytes ≤ length (now s) ⌝ }
-    ensures { λ r. ⌜ Wrote (now (out .entry)) at (heading (now (s .entry))) (now (out .exit)) r ⌝ }
+    ensures { λ r. ⌜ Wrote (now (out .entry)) at (headingText (now (s .entry))) (now (out .exit)) r ⌝ }
 {
     let a = put_counts(s, out, at);
     let e = put_locals(&s[REFS_AT..REFS_END], out, a);

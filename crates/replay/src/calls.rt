@@ -1,24 +1,16 @@
-// Each call beside a stored answer. `want` is the whole array of which the front is lent: what the call writes, and behind it the fill. Assumes nothing.
+// A stored case, asked of the call that it names. Assumes nothing.
 ghost use Prim.Native.Nat.{_+_, _*_, _%_, _/_, _≤_};
-ghost use mathlib.Core.Path.{_≡_};
 ghost use lib.ListN.{length};
-ghost use Rattle.c_api.specs.Packed.{checkReply};
-ghost use Rattle.borrow_analysis.specs.Graph.{graphInput};
-ghost use Rattle.borrow_analysis.specs.Borrows.{inUseReply, conditionalReply, dyingReply};
-ghost use Rattle.stackless_control_flow_graph.specs.Blocks.{flowReply};
-ghost use Rattle.livevar_analysis.specs.Analysis.{liveReply};
-ghost use Rattle.livevar_transform.specs.Rewrite.{rewriteReply};
-ghost use Rattle.replay.specs.Agree.{Says, Answers, Agrees, AgreesPairs, atFront, pairs};
 use crate::packed::FILL;
 use crate::packed::ROOM;
-use c_api::sorzibelu_check;
-use c_api::sorzibelu_conditional;
-use c_api::sorzibelu_dying;
-use c_api::sorzibelu_flow;
-use c_api::sorzibelu_in_use;
-use c_api::sorzibelu_live;
-use c_api::sorzibelu_rewrite;
-use check::same;
+use agreement::StoredCase;
+use agreement::check_agrees;
+use agreement::conditional_agrees;
+use agreement::dying_agrees;
+use agreement::flow_agrees;
+use agreement::in_use_agrees;
+use agreement::live_agrees;
+use agreement::rewrite_agrees;
 use sheet::reader::u32_at;
 
 // A lent 16-bit number before a call.
@@ -39,12 +31,6 @@ const NO_GRAPH: usize = TRIPLE_NUMBERS + 1;
 // The longest graph.
 pub const GRAPH_BYTES: usize = TRIPLES_AT + 4 * TRIPLE_NUMBERS;
 
-// How much a case lends, and the result that is stored.
-pub struct StoredCase {
-    pub lent: usize,
-    pub result: u64,
-}
-
 // What came of a case: the call answered as it is stored; otherwise; or the case cannot be asked.
 pub enum Came {
     Same,
@@ -54,118 +40,6 @@ pub enum Came {
 
 fn compared(agrees: bool) -> Came {
     if agrees { Came::Same } else { Came::Other }
-}
-
-// Whether a call replied with the stored result, and left what is wanted.
-fn agrees(got: u64, result: u64, out: &[u8], want: &[u8]) -> bool
-    ensures { λ r. ⌜ Says r ((got ≡ result) × (now (out .entry) ≡ now (want .entry))) ⌝ }
-{
-    if got != result {
-        return false;
-    }
-    same(out, want)
-}
-
-fn low(x: u16) -> u8
-    ensures { λ r. ⌜ r ≡ x % 256 ⌝ }
-{
-    (x % 256) as u8
-}
-
-fn high(x: u16) -> u8
-    ensures { λ r. ⌜ r ≡ x / 256 ⌝ }
-{
-    (x / 256) as u8
-}
-
-// The two bytes of each number, at the front of `out`.
-fn bytes_of(table: &[u16], out: &mut [u8])
-    requires { ⌜ 2 * length (now table) ≤ length (now out) ⌝ }
-    ensures { λ _. ⌜ now (out .exit) ≡ atFront (pairs (now (table .entry))) (now (out .entry)) ⌝ }
-{
-    let mut i = 0;
-    while i < table.len() {
-        out[2 * i] = low(table[i]);
-        out[2 * i + 1] = high(table[i]);
-        i += 1;
-    }
-}
-
-fn flow_agrees(
-    sheet: &[u8],
-    lent: usize,
-    result: u64,
-    want: &[u8],
-    table: &mut [u16],
-    out: &mut [u8],
-) -> bool
-    requires { ⌜ (lent ≤ length (now table)) × (2 * length (now table) ≤ length (now out)) ⌝ }
-    ensures { λ r. ⌜ Says r (AgreesPairs (flowReply (now (sheet .entry)) lent) lent result (now (table .entry)) (now (out .entry)) (now (want .entry))) ⌝ }
-{
-    let r = sorzibelu_flow(sheet, &mut table[..lent]);
-    bytes_of(table, out);
-    agrees(r, result, out, want)
-}
-
-fn live_agrees(sheet: &[u8], lent: usize, result: u64, want: &[u8], out: &mut [u8]) -> bool
-    requires { ⌜ lent ≤ length (now out) ⌝ }
-    ensures { λ r. ⌜ Says r (Agrees (liveReply (now (sheet .entry)) lent) lent result (now (out .entry)) (now (want .entry))) ⌝ }
-{
-    let r = sorzibelu_live(sheet, &mut out[..lent]);
-    agrees(r, result, out, want)
-}
-
-fn rewrite_agrees(sheet: &[u8], lent: usize, result: u64, want: &[u8], out: &mut [u8]) -> bool
-    requires { ⌜ lent ≤ length (now out) ⌝ }
-    ensures { λ r. ⌜ Says r (Agrees (rewriteReply (now (sheet .entry)) lent) lent result (now (out .entry)) (now (want .entry))) ⌝ }
-{
-    let r = sorzibelu_rewrite(sheet, &mut out[..lent]);
-    agrees(r, result, out, want)
-}
-
-fn check_agrees(sheet: &[u8], result: u64) -> bool
-    ensures { λ r. ⌜ Says r (Answers (checkReply (now (sheet .entry))) result) ⌝ }
-{
-    sorzibelu_check(sheet) == result
-}
-
-fn in_use_agrees(nodes: u32, live: u64, triples: &[u32], node: u32, result: u64) -> bool
-    ensures { λ r. ⌜ Says r (Answers (inUseReply (graphInput nodes live (now (triples .entry))) node) result) ⌝ }
-{
-    sorzibelu_in_use(nodes, live, triples, node) == result
-}
-
-fn conditional_agrees(nodes: u32, live: u64, triples: &[u32], node: u32, result: u64) -> bool
-    ensures { λ r. ⌜ Says r (Answers (conditionalReply (graphInput nodes live (now (triples .entry))) node) result) ⌝ }
-{
-    sorzibelu_conditional(nodes, live, triples, node) == result
-}
-
-fn dying_agrees(
-    nodes: u32,
-    live: u64,
-    triples: &[u32],
-    next_nodes: u32,
-    next_live: u64,
-    next_triples: &[u32],
-    stored: StoredCase,
-    want: &[u8],
-    out: &mut [u8],
-) -> bool
-    requires { ⌜ stored .lent ≤ length (now out) ⌝ }
-    ensures { λ r. ⌜ Says r (Agrees (dyingReply (graphInput nodes live (now (triples .entry))) (graphInput «next_nodes» «next_live» (now («next_triples» .entry))) (stored .lent)) (stored .lent) (stored .result) (now (out .entry)) (now (want .entry))) ⌝ }
-{
-    let lent = stored.lent;
-    let r = sorzibelu_dying(
-        nodes,
-        live,
-        triples,
-        next_nodes,
-        next_live,
-        next_triples,
-        &mut out[..lent],
-    );
-    agrees(r, stored.result, out, want)
 }
 
 // The list of triples behind a graph's count and mask, at the front of `out`; the result is its length, above TRIPLE_NUMBERS where these bytes are no graph.

@@ -2,9 +2,9 @@
 use mathlib.Core.Path.{_≡_}
 use mathlib.Core.List.{List}
 use mathlib.Core.Option.{Option, none, some}
-use Prim.Native.Nat.{ℕ, _/_, _%_, _≤_, _<_}
-use lib.ListN.{getD, take, length}
-use Rattle.base.specs.Lists.{gather, has, firstBad}
+use Prim.Native.Nat.{ℕ, _+_, _/_, _%_, _≤_, _<_}
+use lib.ListN.{getD, take, drop, length}
+use Rattle.base.specs.Lists.{gather, has, place, firstBad}
 use Rattle.dataflow_domains.specs.Mask.{holds}
 use Rattle.stackless_bytecode.specs.declared.Bytecode.{Bytecode}
 use Rattle.stackless_bytecode.specs.Kinds.{at, labelOf}
@@ -40,6 +40,12 @@ pub record LabelsOf (code : List Bytecode) (r : Labels) (labels places : List �
   pub first : repeated r ≡ firstBad (length code) 0 (fresh code)
   pub few : (m : ℕ) → r ≡ Count m → m ≤ length code
   pub listed : (m : ℕ) → r ≡ Count m → LabelLists code (take m labels) (take m places)
+
+-- l is none of the first j labels
+pub record Search (labels : List ℕ) (l j : ℕ) : Type 0 where
+  pub within : j ≤ length labels
+  pub rest : has l labels ≡ has l (drop j labels)
+  pub at-rest : place l labels ≡ j + place l (drop j labels)
 
 -- the first instruction that names a label that no Label has; or the offset of each slot's label
 pub record Named (code : List Bytecode) (n : ℕ) (r : Found) (targets : List ℕ) : Type 0 where

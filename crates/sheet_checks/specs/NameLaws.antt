@@ -1,9 +1,9 @@
 -- Check 7: the search for a label, one label a turn, and the search for a missing one, one slot a turn. Assumes nothing.
-use mathlib.Core.Path.{_≡_, refl, sym, ap, ap₂, _∙_}
-use mathlib.Core.Bool.{Bool, true, false, cond, _||_}
+use mathlib.Core.Path.{_≡_, refl, sym, ap, ap₂, _∙_, subst}
+use mathlib.Core.Bool.{Bool, true, false, cond, _||_, true≢false}
 use mathlib.Core.List.{List, _∷_}
 use mathlib.Core.Option.{some}
-use Prim.Native.Nat.{ℕ, suc, _+_, _-_, _*_, _/_, _%_, _≤_, _<_}
+use Prim.Native.Nat.{ℕ, zero, suc, _+_, _-_, _*_, _/_, _%_, _≤_, _<_}
 use native.Mathlib.Numerals.{add-one}
 use native.Mathlib.Omega.{arith}
 use borrow.Author.Tests.{eq-eqb, ne-eqb}
@@ -12,7 +12,7 @@ use lib.ListN.{getD, set, take, drop, length, length-set, drop-of-length-le}
 use lib.Seq.{drop-cons, getD-take, getD-drop, getD-set-same, getD-set-other}
 use Rattle.base.specs.Sizes.{recordBytes}
 use Rattle.base.specs.Lists.{gather, has, place, firstBad}
-use Rattle.base.specs.ListLaws.{by-eq, has-in}
+use Rattle.base.specs.ListLaws.{by-eq, or-false, has-in}
 use Rattle.base.specs.SearchLaws.{bad-more, bad-stop, bad-end}
 use Rattle.stackless_bytecode.specs.declared.Bytecode.{Bytecode}
 use Rattle.stackless_bytecode.specs.Kinds.{at, branchDests, labelOf}
@@ -25,15 +25,9 @@ use Rattle.sheet.specs.Shaped.{Shaped, code-at}
 use Rattle.base.specs.Refusals.{foundOf}
 use Rattle.sheet.specs.Checks.{namesOk}
 use Rattle.sheet_checks.specs.LocalLaws.{bad-start}
-use Rattle.sheet_checks.specs.Labelled.{LabelLists, Named}
+use Rattle.sheet_checks.specs.Labelled.{LabelLists, Search, Named}
 
 -- ---- one label a turn
-
--- l is none of the first j labels
-pub record Search (labels : List ℕ) (l j : ℕ) : Type 0 where
-  pub within : j ≤ length labels
-  pub rest : has l labels ≡ has l (drop j labels)
-  pub at-rest : place l labels ≡ j + place l (drop j labels)
 
 pub search-none : (labels : List ℕ) (l : ℕ) → Search labels l 0
 search-none labels l = record { within = omega arith; rest = refl; at-rest = omega arith }
@@ -60,6 +54,38 @@ module _ {labels : List ℕ} {l j : ℕ} (s : Search labels l j) where
   pub search-end : length labels ≤ j → has l labels ≡ false
   unfolding has
   search-end h = s .rest ∙ ap (has l) (drop-of-length-le labels h)
+
+has-neither : (l x : ℕ) (xs : List ℕ) → has l (x ∷ xs) ≡ false → (eqb l x ≡ false) × (has l xs ≡ false)
+unfolding has
+has-neither l x xs e = or-false (eqb l x) (has l xs) e
+
+-- nor any of the n behind them
+pub search-part : (n : ℕ) {labels : List ℕ} {l j : ℕ} → Search labels l j → j + n ≤ length labels → has l (take n (drop j labels)) ≡ false → Search labels l (j + n)
+search-part zero s h e = subst (Search _ _) (omega arith) s
+search-part (suc n) {labels} {l} {j} s h e =
+    let split : drop j labels ≡ getD labels j 0 ∷ drop (j + 1) labels = drop-cons labels j 0 (omega arith) ∙ ap (λ (x : ℕ). getD labels j 0 ∷ drop x labels) (sym (add-one j)) in
+    let both = has-neither l (getD labels j 0) (take n (drop (j + 1) labels)) (sym (ap (λ (x : List ℕ). has l (take (suc n) x)) split) ∙ e) in
+    let more = search-part n (search-more s (omega arith) (λ q. true≢false (sym (eq-eqb l (getD labels j 0) (sym q)) ∙ both .0))) (omega arith) (both .1) in
+    subst (Search _ _) (omega arith) more
+
+-- ---- a list looked through
+
+-- what is found so far, or stands behind
+pub list-more : (l : ℕ) (p : List ℕ) (i : ℕ) (found : Bool) → i < length p → has l p ≡ found || has l (drop i p) → has l p ≡ (found || eqb l (getD p i 0)) || has l (drop (i + 1) p)
+unfolding has
+list-more l p i found h e = e ∙ ap (λ (x : List ℕ). found || has l x) (drop-cons p i 0 h) ∙ or-assoc found _ _ ∙ ap (λ (x : ℕ). (found || eqb l (getD p i 0)) || has l (drop x p)) (sym (add-one i))
+  where
+    or-assoc : (a b c : Bool) → a || (b || c) ≡ (a || b) || c
+    or-assoc true b c = refl
+    or-assoc false b c = refl
+
+pub list-end : (l : ℕ) (p : List ℕ) (i : ℕ) (found : Bool) → length p ≤ i → has l p ≡ found || has l (drop i p) → found ≡ has l p
+unfolding has
+list-end l p i found h e = sym (e ∙ ap (λ (x : List ℕ). found || has l x) (drop-of-length-le p h) ∙ or-none found)
+  where
+    or-none : (a : Bool) → a || false ≡ a
+    or-none true = refl
+    or-none false = refl
 
 -- ---- one slot a turn
 

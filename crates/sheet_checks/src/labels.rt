@@ -2,11 +2,12 @@
 ghost use mathlib.Core.Path.{_≡_};
 ghost use Prim.Native.Nat.{_-_, _*_, _/_, _%_, _^_, _<_, _≤_};
 ghost use lib.ListN.{getD, set, length, replicate};
+ghost use Rattle.base.specs.Lists.{has};
 ghost use Rattle.dataflow_domains.specs.Mask.{holds, union};
 ghost use Rattle.stackless_bytecode.specs.Kinds.{at, fallsThrough};
 ghost use Rattle.sheet.specs.Layout.{codeOf};
 ghost use Rattle.sheet.specs.Shaped.{Shaped};
-ghost use Rattle.sheet_checks.specs.Labelled.{seenWords, LabelsOf, LabelLists, Named};
+ghost use Rattle.sheet_checks.specs.Labelled.{seenWords, LabelsOf, LabelLists, Search, Named};
 use base::Found;
 use base::width::u16_to_u32;
 use base::width::u16_to_usize;
@@ -73,6 +74,40 @@ pub fn list_labels(s: &[u8], n: usize, labels: &mut [u16], places: &mut [u16]) -
     collect(s, n, &mut seen, labels, places)
 }
 
+// Labels that are looked at together.
+const GROUP: usize = 32;
+
+// Whether a list has l. Each is compared, so that the machine compares many at once.
+fn list_has(p: &[u16], l: u16) -> bool
+    ensures { λ r. ⌜ r ≡ has l (now (p .entry)) ⌝ }
+{
+    let mut found = false;
+    let mut i = 0;
+    while i < p.len() {
+        found = found | (l == p[i]);
+        i += 1;
+    }
+    found
+}
+
+// How many labels in front, group by group, are not l.
+fn skip(labels: &[u16], l: u32) -> usize
+    ensures { λ r. ⌜ Search (now (labels .entry)) l r ⌝ }
+{
+    if l >= NO_LABEL {
+        return 0;
+    }
+    let x = l as u16;
+    let mut j = 0;
+    while GROUP <= labels.len() - j {
+        if list_has(&labels[j..j + GROUP], x) {
+            return j;
+        }
+        j += GROUP;
+    }
+    j
+}
+
 // Check 7: the first instruction that names a label that no Label has.
 // If there is none, `targets` has the offset of every slot's label: `labels` and `places` are the numbers and the offsets of the Labels.
 pub fn resolve(s: &[u8], n: usize, labels: &[u16], places: &[u16], targets: &mut [u16]) -> Found
@@ -87,7 +122,7 @@ pub fn resolve(s: &[u8], n: usize, labels: &[u16], places: &[u16], targets: &mut
         let r = reader::instruction_at(s, e / 2);
         let l = r.name(e % 2);
         if l != NO_LABEL {
-            let mut j = 0;
+            let mut j = skip(labels, l);
             loop {
                 if j >= labels.len() {
                     break 'outer;

@@ -24,7 +24,7 @@ use Rattle.sheet.specs.CheckLaws.{clear}
 use Rattle.sheet_writer.specs.EncodeLaws.{record-again, sheet-length, first-block, later-block, record-part, zero-part, count-again, rest-again, code-again, heading-number, heading-check, later-number, later-check, later-zeros}
 use Rattle.base.specs.PartLaws.{same-part}
 use Rattle.sheet.specs.AcceptLaws.{and-both, HeadingLayout, is-heading, heading-is}
-use Rattle.sheet_writer.specs.BodyLaws.{both, Body, code-accepted}
+use Rattle.sheet_writer.specs.BodyLaws.{both-accept, Body, code-accepted}
 
 -- ---- the whole sheet
 
@@ -133,8 +133,8 @@ module _ (s : List ℕ) (e : checkSheet s ≡ Accepted) (code : List Bytecode) (
   pub accepted-again : checkSheet (sheetOf (headingRest s) code) ≡ Accepted
   unfolding checkSheet checkForm
   accepted-again =
-      both (sym (both (accepted-whole 1 length-ok)
-      (both (accepted-none 2 (all-none (length sheet / blockBytes) 0 (λ b. blockOk (blockAt sheet b) b) (λ j l h. block-ok j (omega (arith, new-size)))))
-      (both (accepted-whole 3 (heading-is sheet new-heading))
+      both-accept (sym (both-accept (accepted-whole 1 length-ok)
+      (both-accept (accepted-none 2 (all-none (length sheet / blockBytes) 0 (λ b. blockOk (blockAt sheet b) b) (λ j l h. block-ok j (omega (arith, new-size)))))
+      (both-accept (accepted-whole 3 (heading-is sheet new-heading))
       (sym (accepted-none 4 (all-none (blockRecords * recordBlocks (countOf sheet)) 0 (placeOk sheet) (λ j l h. place-ok j (omega (arith, ap recordBlocks same-count))))))))))
       (ap (checkCode (localsOf sheet)) same-code ∙ code-accepted (localsOf sheet) code (subst (λ (x : ℕ). Body x code) (sym same-locals) body))

@@ -29,8 +29,8 @@ use Rattle.sheet.specs.AcceptLaws.{all-by, fresh-unique, unique-fresh, HeadingL
 use Rattle.base.specs.Bytes.{Bytes}
 
 -- two checks accept
-pub both : {v w : Verdict} → Accepted ≡ v → w ≡ Accepted → (v then w) ≡ Accepted
-both {w = w} e f = then-goes w (sym e) ∙ f
+pub both-accept : {v w : Verdict} → Accepted ≡ v → w ≡ Accepted → (v then w) ≡ Accepted
+both-accept {w = w} e f = then-goes w (sym e) ∙ f
 
 -- ---- what checks 4 to 8 want of code
 
@@ -53,9 +53,9 @@ names-ok code sound k h =
 pub code-accepted : (l : ℕ) (code : List Bytecode) → Body l code → checkCode l code ≡ Accepted
 unfolding checkCode
 code-accepted l code b =
-    both (accepted-none 5 (all-none (length code) 0 (λ k. localsOk l (at code k)) (λ j i h. b .locals j (omega arith))))
-    (both (accepted-none 6 (all-none (length code) 0 (fresh code) (λ j l h. unique-fresh code (b .unique) j (omega arith))))
-    (both (accepted-none 7 (all-none (length code) 0 (λ k. namesOk (gather labelOf code) (at code k)) (λ j l h. names-ok code (b .sound) j (omega arith))))
+    both-accept (accepted-none 5 (all-none (length code) 0 (λ k. localsOk l (at code k)) (λ j i h. b .locals j (omega arith))))
+    (both-accept (accepted-none 6 (all-none (length code) 0 (fresh code) (λ j l h. unique-fresh code (b .unique) j (omega arith))))
+    (both-accept (accepted-none 7 (all-none (length code) 0 (λ k. namesOk (gather labelOf code) (at code k)) (λ j l h. names-ok code (b .sound) j (omega arith))))
     (sym (accepted-none 8 (all-none 1 (length code - 1) (λ k. not (fallsThrough (at code k))) (λ j l h. let s : j ≡ length code - 1 = omega arith in ap not (ap (λ (x : ℕ). fallsThrough (at code x)) s ∙ b .sound .closed)))))))
 
 -- ---- the code of an accepted sheet

@@ -173,40 +173,40 @@ body-start code b =
 -- ---- the sheet
 
 module _ (rest : List ℕ) (code : List Bytecode) (full : length rest ≡ blockBytes - 6) where
-  unfoldable pub heading : List ℕ
-  heading = blockOf 0 (bytesOf 2 (length code) ++ rest)
+  unfoldable pub headingBlock : List ℕ
+  headingBlock = blockOf 0 (bytesOf 2 (length code) ++ rest)
 
   unfoldable pub later : ℕ → List ℕ
   later b = blockOf (1 + b) (bodyOf code b)
 
-  heading-length : length heading ≡ blockBytes
-  unfolding heading bytesOf
+  heading-length : length headingBlock ≡ blockBytes
+  unfolding headingBlock bytesOf
   heading-length = block-length 0 (twoOf (length code) ++ rest) (omega arith)
 
   later-length : (b : ℕ) → length (later b) ≡ blockBytes
   unfolding later
   later-length b = block-length (1 + b) (bodyOf code b) (body-length code b)
 
-  sheet-is : sheetOf rest code ≡ heading ++ gather later (tab (recordBlocks (length code)) 0 (λ b. b))
-  unfolding sheetOf heading later
+  sheet-is : sheetOf rest code ≡ headingBlock ++ gather later (tab (recordBlocks (length code)) 0 (λ b. b))
+  unfolding sheetOf headingBlock later
   sheet-is = refl
 
   pub sheet-length : length (sheetOf rest code) ≡ blockBytes * (1 + recordBlocks (length code))
   sheet-length =
       ap length sheet-is
-      ∙ (omega (arith, length-append heading (gather later (tab (recordBlocks (length code)) 0 (λ b. b))), heading-length, gather-length blockBytes later later-length (tab (recordBlocks (length code)) 0 (λ b. b)), length-tab (recordBlocks (length code)) 0 (λ (b : ℕ). b)))
+      ∙ (omega (arith, length-append headingBlock (gather later (tab (recordBlocks (length code)) 0 (λ b. b))), heading-length, gather-length blockBytes later later-length (tab (recordBlocks (length code)) 0 (λ b. b)), length-tab (recordBlocks (length code)) 0 (λ (b : ℕ). b)))
 
-  pub first-block : blockAt (sheetOf rest code) 0 ≡ heading
+  pub first-block : blockAt (sheetOf rest code) 0 ≡ headingBlock
   unfolding blockAt
-  first-block = ap (λ (l : List ℕ). take blockBytes (drop (blockBytes * 0) l)) sheet-is ∙ take-at heading _ blockBytes heading-length
+  first-block = ap (λ (l : List ℕ). take blockBytes (drop (blockBytes * 0) l)) sheet-is ∙ take-at headingBlock _ blockBytes heading-length
 
   pub later-block : (b : ℕ) → b < recordBlocks (length code) → blockAt (sheetOf rest code) (1 + b) ≡ later b
   unfolding blockAt
   later-block b h =
       let bs = tab (recordBlocks (length code)) 0 (λ (x : ℕ). x) in
-      let place : blockBytes * (1 + b) ≡ length heading + blockBytes * b = omega (arith, heading-length) in
+      let place : blockBytes * (1 + b) ≡ length headingBlock + blockBytes * b = omega (arith, heading-length) in
       ap₂ (λ (n : ℕ) (l : List ℕ). take blockBytes (drop n l)) place sheet-is
-      ∙ ap (take blockBytes) (drop-append-add heading (gather later bs) (blockBytes * b) ∙ ap (drop (blockBytes * b)) (sym (append-nil (gather later bs))))
+      ∙ ap (take blockBytes) (drop-append-add headingBlock (gather later bs) (blockBytes * b) ∙ ap (drop (blockBytes * b)) (sym (append-nil (gather later bs))))
       ∙ chunk blockBytes later later-length bs [] b 0 (omega (arith, length-tab (recordBlocks (length code)) 0 (λ (x : ℕ). x)))
       ∙ ap later (getD-tab (recordBlocks (length code)) 0 b (λ x. x) 0 h ∙ zero-add b)
 
@@ -275,12 +275,12 @@ module _ (rest : List ℕ) (code : List Bytecode) (full : length rest ≡ blockB
       at-again : (k : ℕ) → k < length code → instructionAt (sheetOf rest code) k ≡ at code k
       at-again k l = unfold instructionAt in (ap decode (record-part k l) ∙ record-again (at code k) (enc k l))
 
-  pub heading-number : u16At heading 0 ≡ 0
-  unfolding heading
+  pub heading-number : u16At headingBlock 0 ≡ 0
+  unfolding headingBlock
   heading-number = block-number 0 (bytesOf 2 (length code) ++ rest) (omega arith)
 
-  pub heading-check : u16At heading 2 ≡ checkOf heading
-  unfolding heading
+  pub heading-check : u16At headingBlock 2 ≡ checkOf headingBlock
+  unfolding headingBlock
   heading-check = block-check 0 (bytesOf 2 (length code) ++ rest)
 
   pub later-number : (b : ℕ) → 1 + b ≤ maxNumber → u16At (later b) 0 ≡ 1 + b

@@ -35,9 +35,9 @@ use Rattle.stackless_control_flow_graph.specs.Blocks.{starts, lowers, bl
 
 -- ---- the successors of an offset
 
--- none, one or two offsets by value
-abbrev pub listOf : Successors → List ℕ
-listOf p = take (p .count) (p .first ∷ p .second ∷ [])
+-- none, one or two offsets, or their keys, by value
+abbrev pub offsetsOf : Successors → List ℕ
+offsetsOf p = take (p .count) (p .first ∷ p .second ∷ [])
 
 -- the successors of an instruction whose labels stand at `one` and `two`, and behind which `next` stands
 unfoldable pub succsBy : Bytecode → ℕ → ℕ → ℕ → List ℕ
@@ -49,9 +49,13 @@ succsBy r one two next = ascending (take (length (branchDests r)) (one ∷ two �
 abbrev pub noOffset : ℕ
 noOffset = 65535
 
--- at most two offsets, noOffset filling up
-unfoldable pub pairOf : ℕ → ℕ → List ℕ
-pairOf a b = cond (eqb a noOffset) [] (a ∷ cond (eqb b noOffset) [] (b ∷ []))
+-- an offset, or none
+unfoldable pub offsetIn : ℕ → List ℕ
+offsetIn o = cond (eqb o noOffset) [] (o ∷ [])
+
+-- at most two
+abbrev pub pairOf : ℕ → ℕ → List ℕ
+pairOf a b = offsetIn a ++ offsetIn b
 
 -- the two places of offset k
 abbrev pub succsIn : List ℕ → ℕ → List ℕ
@@ -101,6 +105,10 @@ pub record BlocksFound (code : List Bytecode) (m : ℕ) (goes ls uppers : List �
 
 -- ---- keys
 
+-- the keys of the successors of offset u
+abbrev pub succKeysIn : List ℕ → List ℕ → ℕ → List ℕ
+succKeysIn key goes u = map (λ o. getD key o 0) (succsIn goes u)
+
 -- the key of offset o where `ks` have keys, and 0 where it has none
 unfoldable pub keyIn : List ℕ → ℕ → ℕ
 keyIn ks o = cond (has o ks) (keyOf ks o) 0
@@ -117,11 +125,11 @@ pub record Gives (xs key by : List ℕ) (c : ℕ) (key′ by′ : List ℕ) (r :
   pub keys : Keys key′ by′ r
   pub front : take r by′ ≡ firsts (take c by) xs
 
--- the block from l to u and its successors are offsets below n
-pub record Near (n : ℕ) (goes : List ℕ) (l u : ℕ) : Type 0 where
-  pub self : l < n
+-- offset u has its two places, and its successors are offsets below n
+pub record Near (n : ℕ) (goes : List ℕ) (u : ℕ) : Type 0 where
+  pub places : 2 * u + 1 < length goes
   pub first : (getD goes (2 * u) 0 ≡ noOffset → ⊥) → getD goes (2 * u) 0 < n
-  pub second : (getD goes (2 * u) 0 ≡ noOffset → ⊥) → (getD goes (2 * u + 1) 0 ≡ noOffset → ⊥) → getD goes (2 * u + 1) 0 < n
+  pub second : (getD goes (2 * u + 1) 0 ≡ noOffset → ⊥) → getD goes (2 * u + 1) 0 < n
 
 -- what takes keys at the block from l on: its successors, then the block
 unfoldable pub takers : List ℕ → List ℕ → ℕ → List ℕ
@@ -132,8 +140,12 @@ pub record BlockArrays (goes ls uppers : List ℕ) (m n : ℕ) : Type 0 where
   pub blocks : m ≤ length ls
   pub lower : (b : ℕ) → b < m → getD ls b 0 < n
   pub upper : (b : ℕ) → b < m → getD ls b 0 < length uppers
-  pub places : (b : ℕ) → b < m → 2 * getD uppers (getD ls b 0) 0 + 1 < length goes
-  pub next : (b : ℕ) → b < m → Within n (succsIn goes (getD uppers (getD ls b 0) 0))
+  pub near : (b : ℕ) → b < m → Near n goes (getD uppers (getD ls b 0) 0)
+
+-- block b of the arrays is that from l to u
+pub record BlockAt (ls uppers : List ℕ) (b l u : ℕ) : Type 0 where
+  pub lower : l ≡ getD ls b 0
+  pub upper : u ≡ getD uppers (getD ls b 0) 0
 
 -- the keys of all r blocks: the lowers in the order of their keys, and the key of each; nothing else has one
 pub record Numbered (code : List Bytecode) (keys lowerOfKey : List ℕ) (r : ℕ) : Type 0 where
@@ -147,13 +159,13 @@ pub record Numbered (code : List Bytecode) (keys lowerOfKey : List ℕ) (r : ℕ
 abbrev pub threeOf : Three → List ℕ
 threeOf t = t .first ∷ t .second ∷ t .third ∷ []
 
--- the keys of these successors, 1 last at an exit, 0 filling up
-unfoldable pub succKeysIn : List ℕ → List ℕ → Bool → List ℕ
-succKeysIn key xs exit = take 3 (map (λ o. getD key o 0) xs ++ cond exit (1 ∷ []) [] ++ replicate 3 0)
+-- the keys of successors, 1 last at an exit, 0 filling up
+unfoldable pub withExit : List ℕ → Bool → List ℕ
+withExit ks exit = take 3 (ks ++ cond exit (1 ∷ []) [] ++ replicate 3 0)
 
 -- the six numbers of the block from l to u
 unfoldable pub rowFrom : List ℕ → List ℕ → List ℕ → ℕ → ℕ → List ℕ
-rowFrom s goes key l u = l ∷ u ∷ getD key l 0 ∷ succKeysIn key (succsIn goes u) (isExit (instructionAt s u))
+rowFrom s goes key l u = l ∷ u ∷ getD key l 0 ∷ withExit (succKeysIn key goes u) (isExit (instructionAt s u))
 
 -- of the block from l on
 abbrev pub rowIn : List ℕ → List ℕ → List ℕ → List ℕ → ℕ → List ℕ

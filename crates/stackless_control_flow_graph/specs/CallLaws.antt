@@ -1,16 +1,14 @@
 -- The call flow on an accepted sheet. Assumes nothing.
-use mathlib.Core.Path.{_≡_}
-use mathlib.Core.Bool.{cond}
-use mathlib.Core.List.{List, [], _∷_, _++_, map}
+use mathlib.Core.Path.{_≡_, sym, ap, _∙_}
+use mathlib.Core.List.{List, _++_, map}
 use Prim.Native.Nat.{ℕ, _*_, _<_, _≤_}
 use native.Mathlib.Omega.{arith}
-use lib.ListN.{getD, length, take, replicate, length-append}
-use lib.Seq.{length-take-le}
+use lib.ListN.{getD, length, take, drop}
 use Rattle.base.specs.Sizes.{maxInstructions, rowNumbers}
 use Rattle.base.specs.Bytes.{u16At}
 use Rattle.base.specs.Lists.{gather}
-use Rattle.base.specs.Refusals.{No, Done, Accepted, Refused, lends}
-use Rattle.base.specs.ReplyLaws.{call-refused, call-short, call-done}
+use Rattle.base.specs.Refusals.{No, Done, Accepted, Refused, lends, outputAfter}
+use Rattle.base.specs.ReplyLaws.{call-refused, call-short, call-done, done-output}
 use Rattle.base.specs.PartLaws.{gather-length}
 use Rattle.stackless_bytecode.specs.declared.Bytecode.{Bytecode}
 use Rattle.stackless_bytecode.specs.Kinds.{at, isExit}
@@ -21,43 +19,25 @@ use Rattle.sheet.specs.Checks.{checkSheet}
 use Rattle.sheet.specs.CheckLaws.{code-sound}
 use Rattle.stackless_control_flow_graph.specs.Blocks.{lowers, blocksOf, upperOf, keyed, keyOf, succKeys, row, flowTable, flowReply}
 use Rattle.stackless_control_flow_graph.specs.BlockLaws.{upper-lt}
-use Rattle.stackless_control_flow_graph.specs.Arrays.{BlocksFound, Gives, takers, BlockArrays, rowIn, HasRecord, CheckedSheet}
+use Rattle.stackless_control_flow_graph.specs.Arrays.{BlocksFound, Numbered, withExit, rowIn, HasRecord, CheckedSheet}
 use Rattle.base.specs.GrowLaws.{below-few}
 use Rattle.stackless_control_flow_graph.specs.CheckedSheetLaws.{accepted-shaped, accepted-few, accepted-at, accepted-has}
-use Rattle.stackless_control_flow_graph.specs.FlowLaws.{in-lowers, lowers-distinct, block-start, block-upper, cut-ready, cut-numbered, cut-rows}
+use Rattle.stackless_control_flow_graph.specs.RowLaws.{exit-length}
+use Rattle.stackless_control_flow_graph.specs.FlowLaws.{in-lowers, lowers-distinct, block-start, block-upper, cut-rows}
 
 -- no more blocks than instructions
 pub blocks-few : (code : List Bytecode) → blocksOf code ≤ length code
 unfolding blocksOf
 blocks-few code = below-few (length code) (lowers-distinct code) (λ o i. in-lowers code o i .inside)
 
--- ---- the arrays of the blocks of an accepted sheet
-
-module _ (s : List ℕ) (accepted : checkSheet s ≡ Accepted) (m : ℕ) (goes ls uppers : List ℕ) (cut : BlocksFound (codeOf s) m goes ls uppers) where
-  pub fill-ready : (n : ℕ) → n ≡ 1024 → BlockArrays goes ls uppers m n
-  fill-ready n e = cut-ready (codeOf s) (code-sound s accepted) m goes ls uppers cut n (omega (arith, accepted-few s accepted))
-
-  pub fill-has : (b : ℕ) → b < m → HasRecord s (getD uppers (getD ls b 0) 0)
-  fill-has b h =
-      let at = block-start (codeOf s) (code-sound s accepted) m goes ls uppers cut b h in
-      accepted-has s accepted (getD uppers (getD ls b 0) 0) (omega (arith, block-upper (codeOf s) (code-sound s accepted) m goes ls uppers cut (getD ls b 0) at, upper-lt (codeOf s) (getD ls b 0) (at .inside)))
-
-  pub fill-table : (key₀ order₀ key order : List ℕ) (r : ℕ) → length key ≡ 1024 → Gives (gather (takers goes uppers) (take m ls)) key₀ order₀ 0 key order r
-      → gather (rowIn s goes uppers key) (take m ls) ≡ flowTable (codeOf s)
-  fill-table key₀ order₀ key order r size g =
-      cut-rows (codeOf s) (code-sound s accepted) m goes ls uppers cut key order r (omega (arith, accepted-few s accepted))
-      (cut-numbered (codeOf s) (code-sound s accepted) m goes ls uppers cut key₀ order₀ key order r g) s (accepted-at s accepted)
-
 -- ---- what the call answers
 
 pub row-length : (code : List Bytecode) (l : ℕ) → length (row code (keyed code) l) ≡ rowNumbers
 unfolding row
-row-length code l = omega (arith, keys-three code (keyed code) (upperOf code l))
+row-length code l = omega (arith, keys-three (keyed code) (upperOf code l))
   where
-    keys-three : (c : List Bytecode) (ks : List ℕ) (u : ℕ) → length (succKeys c ks u) ≡ 3
-    keys-three c ks u =
-        unfold succKeys in length-take-le 3 (map (keyOf ks) (successors c u) ++ cond (isExit (at c u)) (1 ∷ []) [] ++ replicate 3 0)
-        (omega (arith, length-append (map (keyOf ks) (successors c u) ++ cond (isExit (at c u)) (1 ∷ []) []) (replicate 3 0)))
+    keys-three : (ks : List ℕ) (u : ℕ) → length (succKeys code ks u) ≡ 3
+    keys-three ks u = unfold succKeys withExit in exit-length (map (keyOf ks) (successors code u)) (isExit (at code u))
 
 pub table-length : (code : List Bytecode) → length (flowTable code) ≡ rowNumbers * blocksOf code
 unfolding flowTable blocksOf
@@ -75,6 +55,24 @@ module _ (s : List ℕ) (lent : ℕ) where
   pub flow-done : checkSheet s ≡ Accepted → rowNumbers * blocksOf (codeOf s) ≤ lent → flowReply s lent ≡ Done (blocksOf (codeOf s)) (flowTable (codeOf s))
   unfolding flowReply
   flow-done e h = call-done (Done (blocksOf (codeOf s)) (flowTable (codeOf s))) e h
+
+-- ---- the arrays of the blocks of an accepted sheet
+
+module _ (s : List ℕ) (accepted : checkSheet s ≡ Accepted) (m : ℕ) (goes ls uppers : List ℕ) (cut : BlocksFound (codeOf s) m goes ls uppers) where
+  pub fill-has : (b : ℕ) → b < m → HasRecord s (getD uppers (getD ls b 0) 0)
+  fill-has b h =
+      let at = block-start (codeOf s) (code-sound s accepted) m goes ls uppers cut b h in
+      accepted-has s accepted (getD uppers (getD ls b 0) 0) (omega (arith, block-upper (codeOf s) (code-sound s accepted) m goes ls uppers cut (getD ls b 0) at, upper-lt (codeOf s) (getD ls b 0) (at .inside)))
+
+  -- with room for the rows of all blocks, they are what the call leaves
+  pub fill-output : (key order old table : List ℕ) → length key ≡ maxInstructions → Numbered (codeOf s) key order m → rowNumbers * m ≤ length old
+      → table ≡ gather (rowIn s goes uppers key) (take m ls) ++ drop (rowNumbers * m) old → table ≡ outputAfter (flowReply s (length old)) old
+  fill-output key order old table size numbered room is =
+      done-output old (table-length (codeOf s) ∙ ap (λ (x : ℕ). rowNumbers * x) (sym (cut .count))) (flow-done s (length old) accepted (omega (arith, cut .count)))
+      (is ∙ ap (λ (l : List ℕ). l ++ drop (rowNumbers * m) old) rows)
+    where
+      rows : gather (rowIn s goes uppers key) (take m ls) ≡ flowTable (codeOf s)
+      rows = cut-rows (codeOf s) (code-sound s accepted) m goes ls uppers cut key order m (omega (arith, accepted-few s accepted)) numbered s (accepted-at s accepted)
 
 -- ---- the checks accept, and have found where the labels stand
 

@@ -25,7 +25,7 @@ use Rattle.sheet.specs.Shaped.{Shaped, code-size, code-at, record-inside}
 use Rattle.sheet.specs.ValidLaws.{accepted-valid}
 use Rattle.stackless_control_flow_graph.specs.declared.Successors.{Successors}
 use Rattle.stackless_control_flow_graph.specs.Blocks.{starts}
-use Rattle.stackless_control_flow_graph.specs.Arrays.{listOf, succsBy, putTwo, markAll, Within, SuccessorsTo, Marking, Visits, HasRecord, CheckedSheet}
+use Rattle.stackless_control_flow_graph.specs.Arrays.{offsetsOf, succsBy, putTwo, markAll, Within, SuccessorsTo, Marking, Visits, HasRecord, CheckedSheet}
 use Rattle.stackless_control_flow_graph.specs.StartLaws.{resolved-succs, succs-within, two-places, going-more, marks-skip, marks-more}
 
 -- ---- an accepted sheet
@@ -75,27 +75,27 @@ module _ {s : List ℕ} {n : ℕ} {targets : List ℕ} (g : CheckedSheet s n tar
     inside : k < length (codeOf s)
     inside = omega (arith, checked-size)
 
-    pub next-is : (e : Successors) (next : ℕ) → next ≡ k + 1 → listOf e ≡ succsBy r (getD targets (2 * k) 0) (getD targets (2 * k + 1) 0) next → listOf e ≡ successors (codeOf s) k
+    pub next-is : (e : Successors) (next : ℕ) → next ≡ k + 1 → offsetsOf e ≡ succsBy r (getD targets (2 * k) 0) (getD targets (2 * k + 1) 0) next → offsetsOf e ≡ successors (codeOf s) k
     next-is e next q p =
         p ∙ ap₂ (λ (x : Bytecode) (y : ℕ). succsBy x (getD targets (2 * k) 0) (getD targets (2 * k + 1) 0) y) here q
         ∙ resolved-succs (codeOf s) targets k (g .resolved) inside (subst (λ (x : Bytecode). LabelsBelow x) here below)
 
-    pub next-within : (e : Successors) → listOf e ≡ successors (codeOf s) k → Within n (listOf e)
+    pub next-within : (e : Successors) → offsetsOf e ≡ successors (codeOf s) k → Within n (offsetsOf e)
     next-within e p = record { each = λ x i. omega (arith, checked-size, succs-within (codeOf s) checked-sound k inside .each x (subst (λ (l : List ℕ). List·Memᴰ x l) p i)) }
 
-    going : (goes : List ℕ) (e : Successors) → 2 * n ≤ length goes → listOf e ≡ successors (codeOf s) k → SuccessorsTo (codeOf s) k goes → SuccessorsTo (codeOf s) (k + 1) (putTwo goes k (listOf e))
+    going : (goes : List ℕ) (e : Successors) → 2 * n ≤ length goes → offsetsOf e ≡ successors (codeOf s) k → SuccessorsTo (codeOf s) k goes → SuccessorsTo (codeOf s) (k + 1) (putTwo goes k (offsetsOf e))
     going goes e room p v =
-        going-more (codeOf s) k goes (listOf e) (omega arith) (two-places (e .count) (e .first) (e .second) (record { each = λ x i. omega (arith, next-within e p .each x i, checked-shaped .few) }) ∙ p) v
+        going-more (codeOf s) k goes (offsetsOf e) (omega arith) (two-places (e .count) (e .first) (e .second) (record { each = λ x i. omega (arith, next-within e p .each x i, checked-shaped .few) }) ∙ p) v
 
-    pub visit-quiet : (goes marks : List ℕ) (e : Successors) → 2 * n ≤ length goes → listOf e ≡ successors (codeOf s) k → isBranch r ≡ false
-        → Visits (codeOf s) k goes marks (putTwo goes k (listOf e)) marks
+    pub visit-quiet : (goes marks : List ℕ) (e : Successors) → 2 * n ≤ length goes → offsetsOf e ≡ successors (codeOf s) k → isBranch r ≡ false
+        → Visits (codeOf s) k goes marks (putTwo goes k (offsetsOf e)) marks
     visit-quiet goes marks e room p b = record {
       going = going goes e room p;
       marking = marks-skip (codeOf s) k marks (ap isBranch (sym here) ∙ b);
     }
 
-    pub visit-branch : (goes marks : List ℕ) (e : Successors) → 2 * n ≤ length goes → n < length marks → listOf e ≡ successors (codeOf s) k → isBranch r ≡ true
-        → Visits (codeOf s) k goes marks (putTwo goes k (listOf e)) (markAll marks ((k + 1) ∷ listOf e))
+    pub visit-branch : (goes marks : List ℕ) (e : Successors) → 2 * n ≤ length goes → n < length marks → offsetsOf e ≡ successors (codeOf s) k → isBranch r ≡ true
+        → Visits (codeOf s) k goes marks (putTwo goes k (offsetsOf e)) (markAll marks ((k + 1) ∷ offsetsOf e))
     visit-branch goes marks e room wide p b = record {
       going = going goes e room p;
       marking = λ m. subst (λ (l : List ℕ). Marking (codeOf s) (k + 1) (markAll marks ((k + 1) ∷ l))) (sym p) (marks-more (codeOf s) checked-sound k marks inside (omega (arith, checked-size)) (ap isBranch (sym here) ∙ b) m);

@@ -1,11 +1,11 @@
 -- From the arrays to the definitions: the keys and the rows of code that the checks let through. Assumes nothing.
 use mathlib.Core.Path.{_≡_, refl, sym, ap, ap₂, _∙_, subst}
-use mathlib.Core.Bool.{Bool, true, cond}
+use mathlib.Core.Bool.{true}
 use mathlib.Core.List.{List, [], _∷_, _++_, map, List·Memᴰ}
 use Prim.Native.Nat.{ℕ, _+_, _≤_, _<_, zero-le}
 use native.Mathlib.Nat.{le-antisymm}
 use native.Mathlib.Omega.{arith}
-use lib.ListN.{getD, length, take, replicate, length-take}
+use lib.ListN.{getD, length, take, length-take}
 use lib.Seq.{getD-take}
 use Rattle.base.specs.Lists.{gather, has, firsts, Distinct}
 use Rattle.base.specs.ListLaws.{by-test, keep-in, in-keep, getD-in, has-in, in-has, place-lt}
@@ -17,10 +17,10 @@ use Rattle.stackless_bytecode.specs.Sound.{Sound}
 use Rattle.sheet.specs.Layout.{instructionAt}
 use Rattle.stackless_control_flow_graph.specs.Blocks.{starts, lowers, blocksOf, upperOf, keyed, keyOf, succKeys, row, flowTable}
 use Rattle.stackless_control_flow_graph.specs.BlockLaws.{Start, succs-start, upper-lt, upper-last, keyed-in, in-keyed, keyed-distinct}
-use Rattle.stackless_control_flow_graph.specs.Arrays.{succsIn, Within, BlocksFound, keyIn, Gives, takers, BlockArrays, Numbered, succKeysIn, rowFrom, rowIn}
+use Rattle.stackless_control_flow_graph.specs.Arrays.{succsIn, BlocksFound, keyIn, Gives, takers, Near, BlockArrays, Numbered, succKeysIn, withExit, rowFrom, rowIn}
 use Rattle.base.specs.GrowLaws.{getD-past, gather-agree, map-agree, shorter, keep-distinct}
 use Rattle.stackless_control_flow_graph.specs.StartLaws.{succs-within}
-use Rattle.stackless_control_flow_graph.specs.KeyLaws.{key-none, key-some}
+use Rattle.stackless_control_flow_graph.specs.KeyLaws.{key-none, key-some, near}
 
 -- ---- blocks
 
@@ -65,18 +65,17 @@ module _ (code : List Bytecode) (sound : Sound code) (m : ℕ) (goes ls uppers :
   pub block-next : (o : ℕ) → Start code o → succsIn goes (getD uppers o 0) ≡ successors code (upperOf code o)
   block-next o s = ap (succsIn goes) (block-upper o s) ∙ cut .going .each (upperOf code o) (upper-lt code o (s .inside))
 
-  next-within : (n : ℕ) → length code ≤ n → (o : ℕ) → Start code o → Within n (succsIn goes (getD uppers o 0))
-  next-within n room o s = record {
-    each = λ x i. omega (arith, succs-within code sound (upperOf code o) (upper-lt code o (s .inside)) .each x (subst (λ (l : List ℕ). List·Memᴰ x l) (block-next o s) i));
-  }
+  next-near : (n : ℕ) → length code ≤ n → (o : ℕ) → Start code o → Near n goes (getD uppers o 0)
+  next-near n room o s =
+      near n goes (getD uppers o 0) (omega (arith, cut .places, block-upper o s, upper-lt code o (s .inside)))
+      (record { each = λ x i. omega (arith, succs-within code sound (upperOf code o) (upper-lt code o (s .inside)) .each x (subst (λ (l : List ℕ). List·Memᴰ x l) (block-next o s) i)) })
 
   pub cut-ready : (n : ℕ) → length code ≤ n → BlockArrays goes ls uppers m n
   cut-ready n most = record {
     blocks = long;
     lower = λ b h. omega (arith, block-start b h .inside);
     upper = λ b h. omega (arith, cut .offsets, block-start b h .inside);
-    places = λ b h. let s = block-start b h in omega (arith, cut .places, block-upper (getD ls b 0) s, upper-lt code (getD ls b 0) (s .inside));
-    next = λ b h. next-within n most (getD ls b 0) (block-start b h);
+    near = λ b h. next-near n most (getD ls b 0) (block-start b h);
   }
 
   cut-takers : gather (takers goes uppers) (take m ls) ≡ gather (λ l. successors code (upperOf code l) ++ (l ∷ [])) (lowers code)
@@ -120,8 +119,7 @@ module _ (code : List Bytecode) (sound : Sound code) (m : ℕ) (goes ls uppers :
       blocks = order-long;
       lower = λ b h. omega (arith, order-start b h .inside);
       upper = λ b h. omega (arith, cut .offsets, order-start b h .inside);
-      places = λ b h. let s = order-start b h in omega (arith, cut .places, block-upper (getD order b 0) s, upper-lt code (getD order b 0) (s .inside));
-      next = λ b h. next-within n room (getD order b 0) (order-start b h);
+      near = λ b h. next-near n room (getD order b 0) (order-start b h);
     }
 
     -- every key is below r + 2
@@ -143,9 +141,9 @@ module _ (code : List Bytecode) (sound : Sound code) (m : ℕ) (goes ls uppers :
           ap₂ (λ (u : ℕ) (xs : List ℕ). o ∷ u ∷ xs) (block-upper o b)
           (ap₂ (λ (k : ℕ) (xs : List ℕ). k ∷ xs) (key-at o b) (keys-are o b))
         where
-          keys-are : (x : ℕ) → Start code x → succKeysIn key (succsIn goes (getD uppers x 0)) (isExit (instructionAt s (getD uppers x 0))) ≡ succKeys code (keyed code) (upperOf code x)
+          keys-are : (x : ℕ) → Start code x → withExit (succKeysIn key goes (getD uppers x 0)) (isExit (instructionAt s (getD uppers x 0))) ≡ succKeys code (keyed code) (upperOf code x)
           keys-are x q =
-              unfold succKeysIn succKeys in ap₂ (λ (l : List ℕ) (e : Bool). take 3 (l ++ cond e (1 ∷ []) [] ++ replicate 3 0))
+              unfold withExit succKeys in ap₂ withExit
               (ap (map (λ y. getD key y 0)) (block-next x q) ∙ keys-at x q)
               (ap isExit (ap (instructionAt s) (block-upper x q) ∙ sym (is (upperOf code x) (upper-lt code x (q .inside)))))
 

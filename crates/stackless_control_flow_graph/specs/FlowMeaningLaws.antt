@@ -37,15 +37,15 @@ module _ (code : List Bytecode) (sound : Sound code) (z : List ℕ) where
     inside-lowers = unfold blocksOf in h
 
     -- number i of row b
-    number-at : (i : ℕ) → i < 6 → getD (flowTable code ++ z) (6 * b + i) 0 ≡ getD (row code (keyed code) (getD (lowers code) b 0)) i 0
+    number-at : (i : ℕ) → i < rowNumbers → getD (flowTable code ++ z) (rowNumbers * b + i) 0 ≡ getD (row code (keyed code) (getD (lowers code) b 0)) i 0
     unfolding flowTable
     number-at i g =
-        sym (getD-take 6 (drop (6 * b) (flowTable code ++ z)) i 0 g ∙ getD-drop (6 * b) (flowTable code ++ z) i 0)
-        ∙ ap (λ (l : List ℕ). getD l i 0) (chunk 6 (row code (keyed code)) (row-length code) (lowers code) z b 0 inside-lowers)
+        sym (getD-take rowNumbers (drop (rowNumbers * b) (flowTable code ++ z)) i 0 g ∙ getD-drop (rowNumbers * b) (flowTable code ++ z) i 0)
+        ∙ ap (λ (l : List ℕ). getD l i 0) (chunk rowNumbers (row code (keyed code)) (row-length code) (lowers code) z b 0 inside-lowers)
 
     lower-is : rowLower table b ≡ low b
     unfolding row
-    lower-is = let at : 6 * b ≡ 6 * b + 0 = omega arith in ap (λ (i : ℕ). getD (flowTable code ++ z) i 0) at ∙ number-at 0 (omega arith)
+    lower-is = let at : rowNumbers * b ≡ rowNumbers * b + 0 = omega arith in ap (λ (i : ℕ). getD (flowTable code ++ z) i 0) at ∙ number-at 0 (omega arith)
 
     upper-is : rowUpper table b ≡ upperOf code (low b)
     unfolding row

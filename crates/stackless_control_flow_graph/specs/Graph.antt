@@ -1,12 +1,12 @@
 -- The graph of a code's blocks by key, in the arrays that a run over it reads. Assumes nothing.
 use mathlib.Core.Path.{_≡_}
 use mathlib.Core.List.{List}
-use Prim.Native.Nat.{ℕ, _+_, _*_, _≤_, _<_}
+use Prim.Native.Nat.{ℕ, _+_, _≤_, _<_}
 use lib.ListN.{getD, length}
 use Rattle.base.specs.Sizes.{maxInstructions}
 use Rattle.stackless_bytecode.specs.declared.Bytecode.{Bytecode}
 use Rattle.stackless_control_flow_graph.specs.Blocks.{lowerOf, upperOf, keyed, keyOf}
-use Rattle.stackless_control_flow_graph.specs.Sorting.{Leads}
+use Rattle.stackless_control_flow_graph.specs.Sorting.{maxSlots, Leads}
 
 -- the arrays have room for the blocks of any sheet, and are blank where they are counted in
 pub record GraphRoom (lowerOfKey upperOfKey keyOfOffset firstEdge edges : List ℕ) : Type 0 where
@@ -16,7 +16,7 @@ pub record GraphRoom (lowerOfKey upperOfKey keyOfOffset firstEdge edges : List �
   pub keys-blank : (o : ℕ) → getD keyOfOffset o 0 ≡ 0
   pub firsts-long : maxInstructions + 5 ≤ length firstEdge
   pub firsts-blank : (v : ℕ) → getD firstEdge v 0 ≡ 0
-  pub edges-long : 3 * (maxInstructions + 2) ≤ length edges
+  pub edges-long : maxSlots ≤ length edges
 
 -- the lower and the upper of each block, by key
 pub record Bounds (code : List Bytecode) (lowerOfKey upperOfKey : List ℕ) : Type 0 where

@@ -14,7 +14,7 @@ use Rattle.stackless_control_flow_graph.specs.Blocks.{upperOf, keyed}
 use Rattle.stackless_control_flow_graph.specs.Arrays.{CheckedSheet, Gives, takers, BlockArrays, BlocksFound, Numbered, keyIn}
 use Rattle.stackless_control_flow_graph.specs.Sorting.{Leads}
 use Rattle.stackless_control_flow_graph.specs.Graph.{OffsetKeys, GraphTables}
-use Rattle.stackless_control_flow_graph.specs.FlowLaws.{keys-blocks, cut-numbered, order-start, order-ready, keys-low}
+use Rattle.stackless_control_flow_graph.specs.FlowLaws.{keys-blocks, cut-ready, cut-numbered, order-start, order-ready, keys-low}
 use Rattle.stackless_control_flow_graph.specs.CheckedSheetLaws.{checked-shaped, checked-sound, checked-size}
 use Rattle.stackless_control_flow_graph.specs.CallLaws.{blocks-few}
 
@@ -28,12 +28,16 @@ module _ {s : List ℕ} {n : ℕ} {targets : List ℕ} (checked : CheckedSheet s
   all-keys : m ≡ length (keyed (codeOf s))
   all-keys = cut .count ∙ sym (keys-blocks (codeOf s) (checked-sound checked))
 
-  module _ {keys₀ lows₀ keys lows : List ℕ} {r : ℕ} (gives : Gives (gather (takers goes uppers) (take m ls)) keys₀ lows₀ 0 keys lows r) (long : length keys ≡ maxInstructions) where
-    pub numbered : Numbered (codeOf s) keys lows m
-    numbered =
-        let num = cut-numbered (codeOf s) (checked-sound checked) m goes ls uppers cut keys₀ lows₀ keys lows r gives in
-        subst (Numbered (codeOf s) keys lows) (num .count ∙ sym (cut .count)) num
+  -- the arrays that the keys are given from
+  pub found-ready : {n : ℕ} → n ≡ maxInstructions → BlockArrays goes ls uppers m n
+  found-ready e = cut-ready (codeOf s) (checked-sound checked) m goes ls uppers cut _ (omega (arith, few))
 
+  pub all-numbered : {keys₀ lows₀ keys lows : List ℕ} {r : ℕ} → Gives (gather (takers goes uppers) (take m ls)) keys₀ lows₀ 0 keys lows r → Numbered (codeOf s) keys lows m
+  all-numbered gives =
+      let num = cut-numbered (codeOf s) (checked-sound checked) m goes ls uppers cut _ _ _ _ _ gives in
+      subst (Numbered (codeOf s) _ _) (num .count ∙ sym (cut .count)) num
+
+  module _ {keys lows : List ℕ} (numbered : Numbered (codeOf s) keys lows m) (long : length keys ≡ maxInstructions) where
     most : length (codeOf s) ≤ length keys
     most = omega (arith, few)
 

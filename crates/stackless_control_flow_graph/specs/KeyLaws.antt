@@ -2,19 +2,31 @@
 use mathlib.Core.Path.{_≡_, refl, sym, ap, ap₂, _∙_, subst}
 use mathlib.Core.Logic.{_≢_, ⊎-elim}
 use mathlib.Core.Bool.{Bool, true, false, cond, _||_, true≢false}
-use mathlib.Core.List.{List, [], _∷_, _++_, List·Memᴰ, List·Memᴰ·head, List·Memᴰ·tail, List·Memᴰ·not-nil, List·Memᴰ·cases-cons, List·Memᴰ·append-cases, List·Memᴰ·eq-of-singleton}
+use mathlib.Core.List.{List, [], _∷_, _++_, map, append-nil, List·Memᴰ, List·Memᴰ·head, List·Memᴰ·not-nil, List·Memᴰ·cases-cons, List·Memᴰ·append-cases, List·Memᴰ·eq-of-singleton, Memᴰ·append-left, Memᴰ·append-right}
 use Prim.Native.Nat.{ℕ, suc, _+_, _*_, _≤_, _<_}
 use native.Mathlib.Numerals.{add-one}
 use native.Mathlib.Omega.{arith}
 use borrow.Author.Tests.{eq-eqb, ne-eqb}
-use lib.Dec.{eqb}
 use lib.ListN.{getD, set, length, take, length-set}
 use lib.Seq.{length-take-le, take-suc-set, getD-set-same, getD-set-other}
 use Rattle.base.specs.Lists.{has, place, firsts, gather, Distinct}
 use Rattle.base.specs.ListLaws.{by-test, by-eq, in-has, firsts-distinct}
 use Rattle.stackless_control_flow_graph.specs.Blocks.{keyOf}
-use Rattle.stackless_control_flow_graph.specs.Arrays.{noOffset, pairOf, succsIn, Within, keyIn, Keys, Gives, Near, takers}
-use Rattle.base.specs.GrowLaws.{has-append, place-front, place-end, firsts-append, firsts-old, firsts-new, below-few, gather-more}
+use Rattle.stackless_control_flow_graph.specs.Arrays.{noOffset, offsetIn, pairOf, succsIn, Within, keyIn, Keys, Gives, Near, takers, BlockArrays, BlockAt}
+use Rattle.base.specs.GrowLaws.{has-append, place-front, place-end, firsts-append, firsts-old, firsts-new, below-few, gather-more, map-append}
+
+-- ---- an offset, or none
+
+offset-none : (o : ℕ) → o ≡ noOffset → [] ≡ offsetIn o
+unfolding offsetIn
+offset-none o e = ap (λ (t : Bool). cond t [] (o ∷ [])) (sym (eq-eqb o noOffset e))
+
+offset-is : (o : ℕ) → (o ≡ noOffset → ⊥) → o ∷ [] ≡ offsetIn o
+unfolding offsetIn
+offset-is o g = ap (λ (t : Bool). cond t [] (o ∷ [])) (sym (ne-eqb o noOffset g))
+
+offset-in : (o : ℕ) → (o ≡ noOffset → ⊥) → List·Memᴰ o (offsetIn o)
+offset-in o g = subst (λ (l : List ℕ). List·Memᴰ o l) (offset-is o g) (List·Memᴰ·head refl)
 
 -- ---- `keyIn`
 
@@ -46,15 +58,20 @@ key-kept ks o x g =
 
 -- ---- one offset
 
-module _ (key by : List ℕ) (c o : ℕ) (k : Keys key by c) (h : o < length key) where
+-- none: nothing changes
+pub give-none : (key by : List ℕ) (c o : ℕ) → Keys key by c → o ≡ noOffset → Gives (offsetIn o) key by c key by c
+unfolding firsts
+give-none key by c o k e = rw (← offset-none o e) (record { keys = k; front = refl })
+
+module _ (key by : List ℕ) (c o : ℕ) (k : Keys key by c) (some : o ≡ noOffset → ⊥) (h : o < length key) where
   seen : List ℕ
   seen = take c by
 
   size : length (take c by) ≡ c
   size = length-take-le c by (k .inside)
 
-  pub give-old : (getD key o 0 ≡ 0 → ⊥) → Gives (o ∷ []) key by c key by c
-  give-old g = record { keys = k; front = sym (firsts-old (take c by) o has-key) }
+  pub give-old : (getD key o 0 ≡ 0 → ⊥) → Gives (offsetIn o) key by c key by c
+  give-old g = rw (← offset-is o some) (record { keys = k; front = sym (firsts-old (take c by) o has-key) })
     where
       has-key : has o (take c by) ≡ true
       has-key = by-test (λ b. has o (take c by) ≡ b → b ≡ true) (has o (take c by)) (λ e q. refl) (λ e q. absurd (g (k .each o h ∙ key-none (take c by) o e))) refl
@@ -69,8 +86,8 @@ module _ (key by : List ℕ) (c o : ℕ) (k : Keys key by c) (h : o < length key
     give-room =
         omega (arith, size, below-few {xs = o ∷ take c by} (length key) (Distinct.one (λ i. true≢false (sym (in-has o (take c by) i) ∙ none-yet)) (k .once)) (λ x i. ⊎-elim (λ e. omega arith) (λ t. k .within .each x t) (List·Memᴰ·cases-cons i)))
 
-    pub give-new : (w v : ℕ) → w ≡ c + 2 → v ≡ o → length key ≤ length by → Gives (o ∷ []) key by c (set key o w) (set by c v) (c + 1)
-    give-new w v ew ev room = rw (ew, ev) (record {
+    pub give-new : (w v : ℕ) → w ≡ c + 2 → v ≡ o → length key ≤ length by → Gives (offsetIn o) key by c (set key o w) (set by c v) (c + 1)
+    give-new w v ew ev room = rw (ew, ev, ← offset-is o some) (record {
       keys = record { each = each; once = subst (λ (l : List ℕ). Distinct l) (sym after) (firsts-distinct (take c by) (o ∷ []) (k .once)); within = within; inside = omega (arith, length-set by c o, give-room) };
       front = after;
     })
@@ -100,55 +117,42 @@ give-then xs ys {by = by} {c = c} g h = record {
 
 -- ---- a block
 
--- none, one or two successors
-pub pair-none : (a b : ℕ) → a ≡ noOffset → [] ≡ pairOf a b
-unfolding pairOf
-pair-none a b e = ap (λ (t : Bool). cond t [] (a ∷ cond (eqb b noOffset) [] (b ∷ []))) (sym (eq-eqb a noOffset e))
+-- what takes keys at a block: its successors, then the block
+pub gives-block : (a b l x y : ℕ) → x ≡ a → y ≡ b → (l ≡ noOffset → ⊥) → {key by key′ by′ key″ by″ key‴ by‴ : List ℕ} {c r r′ r″ : ℕ}
+    → Gives (offsetIn x) key by c key′ by′ r → Gives (offsetIn y) key′ by′ r key″ by″ r′ → Gives (offsetIn l) key″ by″ r′ key‴ by‴ r″ → Gives (pairOf a b ++ (l ∷ [])) key by c key‴ by‴ r″
+gives-block a b l x y s t g p q o =
+    rw (← s, ← t, offset-is l g) (give-then (offsetIn x ++ offsetIn y) (offsetIn l) (give-then (offsetIn x) (offsetIn y) p q) o)
 
-pub pair-one : (a b : ℕ) → (a ≡ noOffset → ⊥) → b ≡ noOffset → a ∷ [] ≡ pairOf a b
-unfolding pairOf
-pair-one a b g e = sym (ap₂ (λ (s t : Bool). cond s [] (a ∷ cond t [] (b ∷ []))) (ne-eqb a noOffset g) (eq-eqb b noOffset e))
-
-pub pair-two : (a b : ℕ) → (a ≡ noOffset → ⊥) → (b ≡ noOffset → ⊥) → a ∷ b ∷ [] ≡ pairOf a b
-unfolding pairOf
-pair-two a b g h = sym (ap₂ (λ (s t : Bool). cond s [] (a ∷ cond t [] (b ∷ []))) (ne-eqb a noOffset g) (ne-eqb b noOffset h))
-
--- what is in them
-pair-first : (a b : ℕ) → (a ≡ noOffset → ⊥) → List·Memᴰ a (pairOf a b)
-unfolding pairOf
-pair-first a b g = subst (λ (t : Bool). List·Memᴰ a (cond t [] (a ∷ cond (eqb b noOffset) [] (b ∷ [])))) (sym (ne-eqb a noOffset g)) (List·Memᴰ·head refl)
-
-pair-second : (a b : ℕ) → (a ≡ noOffset → ⊥) → (b ≡ noOffset → ⊥) → List·Memᴰ b (pairOf a b)
-pair-second a b g h = subst (λ (l : List ℕ). List·Memᴰ b l) (pair-two a b g h) (List·Memᴰ·tail (List·Memᴰ·head refl))
-
-pub near : (n : ℕ) (goes : List ℕ) (l u : ℕ) → l < n → Within n (succsIn goes u) → Near n goes l u
-near n goes l u h w = record {
-  self = h;
-  first = λ g. w .each _ (pair-first (getD goes (2 * u) 0) (getD goes (2 * u + 1) 0) g);
-  second = λ g q. w .each _ (pair-second (getD goes (2 * u) 0) (getD goes (2 * u + 1) 0) g q);
+pub near : (n : ℕ) (goes : List ℕ) (u : ℕ) → 2 * u + 1 < length goes → Within n (succsIn goes u) → Near n goes u
+near n goes u h w = record {
+  places = h;
+  first = λ g. w .each _ (Memᴰ·append-left (offsetIn (getD goes (2 * u + 1) 0)) (offset-in (getD goes (2 * u) 0) g));
+  second = λ g. w .each _ (Memᴰ·append-right (offsetIn (getD goes (2 * u) 0)) (offset-in (getD goes (2 * u + 1) 0) g));
 }
 
--- a block with no successor, with one, and with two
-module _ (a b l x y : ℕ) (s : x ≡ a) (t : y ≡ b) where
-  pub gives-none : {key by key′ by′ : List ℕ} {c r : ℕ} → x ≡ noOffset → Gives (l ∷ []) key by c key′ by′ r → Gives (pairOf a b ++ (l ∷ [])) key by c key′ by′ r
-  gives-none e p = rw (← (pair-none a b (sym s ∙ e))) p
+-- a block's bounds, from the arrays
+module _ {goes ls uppers : List ℕ} {m n b l u : ℕ} (arrays : BlockArrays goes ls uppers m n) (inside : b < m) (is : BlockAt ls uppers b l u) where
+  pub block-lower : l < n
+  block-lower = omega (arith, is .lower, arrays .lower b inside)
 
-  pub gives-one : {key by key′ by′ key″ by″ : List ℕ} {c r r′ : ℕ} → (x ≡ noOffset → ⊥) → y ≡ noOffset
-      → Gives (x ∷ []) key by c key′ by′ r → Gives (l ∷ []) key′ by′ r key″ by″ r′ → Gives (pairOf a b ++ (l ∷ [])) key by c key″ by″ r′
-  gives-one g e p q = rw (← (pair-one a b (λ z. g (s ∙ z)) (sym t ∙ e)), ← s) (give-then (x ∷ []) (l ∷ []) p q)
+  pub block-near : Near n goes u
+  block-near = rw (is .upper) (arrays .near b inside)
 
-  pub gives-two : {key by key′ by′ key″ by″ key‴ by‴ : List ℕ} {c r r′ r″ : ℕ} → (x ≡ noOffset → ⊥) → (y ≡ noOffset → ⊥)
-      → Gives (x ∷ []) key by c key′ by′ r → Gives (y ∷ []) key′ by′ r key″ by″ r′ → Gives (l ∷ []) key″ by″ r′ key‴ by‴ r″ → Gives (pairOf a b ++ (l ∷ [])) key by c key‴ by‴ r″
-  gives-two g h p q o =
-      rw (← (pair-two a b (λ z. g (s ∙ z)) (λ z. h (t ∙ z))), ← s, ← t) (give-then (x ∷ y ∷ []) (l ∷ []) (give-then (x ∷ []) (y ∷ []) p q) o)
+-- the keys of successors, one behind the other
+module _ (key : List ℕ) (c f s o : ℕ) where
+  pub with-none : o ≡ noOffset → take c (f ∷ s ∷ []) ≡ take c (f ∷ s ∷ []) ++ map (λ o. getD key o 0) (offsetIn o)
+  with-none e = rw (← offset-none o e) (sym (append-nil (take c (f ∷ s ∷ []))))
 
--- the successors are offsets below n
-module _ (n : ℕ) (goes : List ℕ) (l u x y : ℕ) (w : Near n goes l u) (s : x ≡ getD goes (2 * u) 0) (t : y ≡ getD goes (2 * u + 1) 0) where
-  pub near-first : (x ≡ noOffset → ⊥) → x < n
-  near-first g = omega (arith, w .first (λ z. g (s ∙ z)))
+  module _ (i : ℕ) (is : i ≡ o) (some : o ≡ noOffset → ⊥) where
+    pub with-first : c ≡ 0 → getD key i 0 ∷ [] ≡ take c (f ∷ s ∷ []) ++ map (λ o. getD key o 0) (offsetIn o)
+    with-first e = rw (e, is, ← offset-is o some)
 
-  pub near-second : (x ≡ noOffset → ⊥) → (y ≡ noOffset → ⊥) → y < n
-  near-second g h = omega (arith, w .second (λ z. g (s ∙ z)) (λ z. h (t ∙ z)))
+    pub with-second : c ≡ 1 → f ∷ getD key i 0 ∷ [] ≡ take c (f ∷ s ∷ []) ++ map (λ o. getD key o 0) (offsetIn o)
+    with-second e = rw (e, is, ← offset-is o some)
+
+-- those of the first place, then those of the second
+pub keys-pair : (key : List ℕ) (a b : ℕ) {xs ys : List ℕ} → xs ≡ map (λ o. getD key o 0) (offsetIn a) → ys ≡ xs ++ map (λ o. getD key o 0) (offsetIn b) → ys ≡ map (λ o. getD key o 0) (pairOf a b)
+keys-pair key a b e f = f ∙ ap (λ (l : List ℕ). l ++ map (λ o. getD key o 0) (offsetIn b)) e ∙ sym (map-append (λ o. getD key o 0) (offsetIn a) (offsetIn b))
 
 -- ---- all blocks
 
@@ -159,7 +163,8 @@ keys-begin key by goes uppers ls z = record {
   front = refl;
 }
 
-pub keys-more : (goes uppers ls : List ℕ) (b l u : ℕ) {key by key′ by′ key″ by″ : List ℕ} {c r r′ : ℕ} → b < length ls → l ≡ getD ls b 0 → u ≡ getD uppers l 0
+pub keys-more : (goes uppers ls : List ℕ) (b l u : ℕ) {key by key′ by′ key″ by″ : List ℕ} {c r r′ : ℕ} → b < length ls → BlockAt ls uppers b l u
     → Gives (gather (takers goes uppers) (take b ls)) key by c key′ by′ r → Gives (succsIn goes u ++ (l ∷ [])) key′ by′ r key″ by″ r′ → Gives (gather (takers goes uppers) (take (b + 1) ls)) key by c key″ by″ r′
-keys-more goes uppers ls b l u h el eu p q =
-    rw (gather-more (takers goes uppers) ls b 0 h, ← el) (give-then (gather (takers goes uppers) (take b ls)) (takers goes uppers l) p (unfold takers in rw (← eu) q))
+keys-more goes uppers ls b l u h is p q =
+    rw (gather-more (takers goes uppers) ls b 0 h)
+    (give-then (gather (takers goes uppers) (take b ls)) (takers goes uppers (getD ls b 0)) p (unfold takers in rw (← (is .upper), ← (is .lower)) q))

@@ -15,13 +15,13 @@ use Rattle.base.specs.ListLaws.{by-test, by-eq, or-true, has-in, in-map, in-gat
 use Rattle.stackless_bytecode.specs.declared.Bytecode.{Bytecode}
 use Rattle.stackless_bytecode.specs.Kinds.{nop, at, isExit, isFlagged, isJump, isBranch, fallsThrough, branchDests}
 use Rattle.stackless_bytecode.specs.Successors.{labelOffset, ascending, successors}
-use Rattle.stackless_bytecode.specs.SuccessorLaws.{Next, in-succs, succs-in}
+use Rattle.stackless_bytecode.specs.SuccessorLaws.{NextOffset, in-succs, succs-in}
 use Rattle.stackless_bytecode.specs.Sound.{Sound}
 use Rattle.stackless_bytecode.specs.Slots.{noLabel, slotAt, Resolved}
 use Rattle.stackless_bytecode.specs.SlotLaws.{LabelsBelow}
 use Rattle.stackless_control_flow_graph.specs.Blocks.{targets, starts}
 use Rattle.stackless_control_flow_graph.specs.BlockLaws.{Last, succs-start}
-use Rattle.stackless_control_flow_graph.specs.Arrays.{succsBy, noOffset, pairOf, succsIn, putTwo, markAll, Within, SuccessorsTo, Marked, Marking}
+use Rattle.stackless_control_flow_graph.specs.Arrays.{succsBy, noOffset, offsetIn, pairOf, succsIn, putTwo, markAll, Within, SuccessorsTo, Marked, Marking}
 
 -- ---- none, one or two by value
 
@@ -108,9 +108,9 @@ resolved-succs code ts k r h below =
 pub succs-within : (code : List Bytecode) → Sound code → (k : ℕ) → k < length code → Within (length code) (successors code k)
 succs-within code sound k h = record { each = λ o i. go o (in-succs code k o i) }
   where
-    go : (o : ℕ) → Next code k o → o < length code
-    go o (Next.named l i e) = omega (arith, sound .named k l h i)
-    go o (Next.on f e) =
+    go : (o : ℕ) → NextOffset code k o → o < length code
+    go o (NextOffset.named l i e) = omega (arith, sound .named k l h i)
+    go o (NextOffset.on f e) =
         by-eq (suc k) (length code) (λ q. absurd (true≢false (sym f ∙ ap (λ (x : ℕ). fallsThrough (at code x)) (last q) ∙ sound .closed))) (λ g. omega arith)
       where
         last : suc k ≡ length code → k ≡ length code - 1
@@ -120,11 +120,11 @@ succs-within code sound k h = record { each = λ o i. go o (in-succs code k o i)
 
 -- at most two come back as they were put
 pub two-places : (c f s : ℕ) → Within noOffset (take c (f ∷ s ∷ [])) → pairOf (getD (take c (f ∷ s ∷ [])) 0 noOffset) (getD (take c (f ∷ s ∷ [])) 1 noOffset) ≡ take c (f ∷ s ∷ [])
-unfolding pairOf
+unfolding offsetIn
 two-places zero f s w = refl
-two-places (suc zero) f s w = ap (λ (b : Bool). cond b [] (f ∷ [])) (ne-eqb f noOffset (λ e. omega (arith, w .each f (List·Memᴰ·head refl))))
+two-places (suc zero) f s w = ap (λ (b : Bool). cond b [] (f ∷ []) ++ []) (ne-eqb f noOffset (λ e. omega (arith, w .each f (List·Memᴰ·head refl))))
 two-places (suc (suc c)) f s w =
-    ap₂ (λ (a b : Bool). cond a [] (f ∷ cond b [] (s ∷ []))) (ne-eqb f noOffset (λ e. omega (arith, w .each f (List·Memᴰ·head refl))))
+    ap₂ (λ (a b : Bool). cond a [] (f ∷ []) ++ cond b [] (s ∷ [])) (ne-eqb f noOffset (λ e. omega (arith, w .each f (List·Memᴰ·head refl))))
     (ne-eqb s noOffset (λ e. omega (arith, w .each s (List·Memᴰ·tail (List·Memᴰ·head refl)))))
     ∙ ap (λ (l : List ℕ). f ∷ s ∷ l) (sym (take-nil c))
 
@@ -247,4 +247,4 @@ marks-end code m g = record {
             let w = in-gather branchDests code (r .0) (r .1) in
             let p = in-getD code (w .0) nop (w .1) in
             let named : List·Memᴰ (r .0) (branchDests (at code (p .0))) = subst (λ (x : Bytecode). List·Memᴰ (r .0) (branchDests x)) (sym (p .2)) (w .2) in
-            g .named (p .0) (suc k) (p .1) (names-branch (at code (p .0)) (r .0) named) (succs-in code (p .0) (suc k) (Next.named (r .0) named (r .2)))
+            g .named (p .0) (suc k) (p .1) (names-branch (at code (p .0)) (r .0) named) (succs-in code (p .0) (suc k) (NextOffset.named (r .0) named (r .2)))

@@ -1,16 +1,22 @@
 // The keys of the blocks: blocks by offset, at each the successors take keys first, then the block. Assumes nothing.
 ghost use mathlib.Core.Path.{_≡_};
 ghost use mathlib.Core.Bool.{cond};
-ghost use mathlib.Core.List.{List, [], _∷_, _++_};
+ghost use mathlib.Core.List.{List, [], _∷_, _++_, map};
 ghost use Prim.Native.Nat.{ℕ, _+_, _*_, _≤_, _<_};
 ghost use lib.Dec.{eqb};
 ghost use lib.ListN.{length, getD, take};
 ghost use Rattle.base.specs.Lists.{gather};
+ghost use Rattle.base.specs.Sizes.{maxInstructions};
 ghost use Rattle.stackless_bytecode.specs.declared.Bytecode.{Bytecode};
 ghost use Rattle.stackless_bytecode.specs.Sound.{Sound};
+ghost use Rattle.sheet.specs.Layout.{codeOf};
 ghost use Rattle.stackless_control_flow_graph.specs.Blocks.{keyed};
-ghost use Rattle.stackless_control_flow_graph.specs.Arrays.{succsIn, keyIn, Keys, Gives, Near, takers, BlockArrays};
+ghost use Rattle.stackless_control_flow_graph.specs.Arrays.{noOffset, offsetIn, offsetsOf, threeOf, succsIn, succKeysIn, keyIn, Keys, Gives, Near, takers, BlockArrays, BlocksFound, Numbered, CheckedSheet};
 ghost use Rattle.stackless_control_flow_graph.specs.Graph.{OffsetKeys};
+use crate::Successors;
+use crate::Three;
+use crate::blocks::block_at;
+use crate::blocks::find_blocks;
 use crate::starts::NO_OFFSET;
 use base::width::u16_to_usize;
 use base::width::usize_to_u16;
@@ -18,14 +24,20 @@ use base::width::usize_to_u16;
 // Stands for no successor.
 const NO_SUCCESSOR: usize = NO_OFFSET as usize;
 
-// The first key of a block: 0 and 1 are the dummy entrance and exit.
-pub const FIRST_KEY: usize = 2;
+// The key of the dummy exit; that of the dummy entrance is 0.
+pub const EXIT_KEY: u16 = 1;
 
-// The next key to offset o, where it has none yet; how many offsets have keys then.
+// The first key of a block.
+const FIRST_KEY: usize = 2;
+
+// The next key to offset o, where it is one and has none yet; how many offsets have keys then.
 fn give_key(c: usize, o: usize, keys: &mut [u16], lower_of_key: &mut [u16]) -> usize
-    requires { ⌜ Keys (now keys) (now «lower_of_key») c × (o < length (now keys)) × (length (now keys) ≤ length (now «lower_of_key»)) × (length (now keys) < 65534) ⌝ }
-    ensures { λ r. ⌜ Gives (o ∷ []) (now (keys .entry)) (now («lower_of_key» .entry)) c (now (keys .exit)) (now («lower_of_key» .exit)) r ⌝ }
+    requires { ⌜ Keys (now keys) (now «lower_of_key») c × ((o ≡ noOffset → ⊥) → o < length (now keys)) × (length (now keys) ≤ length (now «lower_of_key»)) × (length (now keys) ≤ maxInstructions) ⌝ }
+    ensures { λ r. ⌜ Gives (offsetIn o) (now (keys .entry)) (now («lower_of_key» .entry)) c (now (keys .exit)) (now («lower_of_key» .exit)) r ⌝ }
 {
+    if o == NO_SUCCESSOR {
+        return c;
+    }
     if keys[o] != 0 {
         return c;
     }
@@ -43,34 +55,19 @@ fn number_block(
     keys: &mut [u16],
     lower_of_key: &mut [u16],
 ) -> usize
-    requires { ⌜ Keys (now keys) (now «lower_of_key») c × Near (length (now keys)) (now goes) l u × (2 * u + 1 < length (now goes)) × (length (now keys) ≤ length (now «lower_of_key»)) × (length (now keys) < 65534) ⌝ }
+    requires { ⌜ Keys (now keys) (now «lower_of_key») c × (l < length (now keys)) × Near (length (now keys)) (now goes) u × (length (now keys) ≤ length (now «lower_of_key»)) × (length (now keys) ≤ maxInstructions) ⌝ }
     ensures { λ r. ⌜ Gives (succsIn (now (goes .entry)) u ++ (l ∷ [])) (now (keys .entry)) (now («lower_of_key» .entry)) c (now (keys .exit)) (now («lower_of_key» .exit)) r ⌝ }
 {
     let at = 2 * u;
     let first = u16_to_usize(goes[at]);
     let second = u16_to_usize(goes[at + 1]);
-    if first == NO_SUCCESSOR {
-        return give_key(c, l, keys, lower_of_key);
-    }
-    if second == NO_SUCCESSOR {
-        return give_key(
-            give_key(c, first, keys, lower_of_key),
-            l,
-            keys,
-            lower_of_key,
-        );
-    }
     let d = give_key(c, first, keys, lower_of_key);
-    give_key(
-        give_key(d, second, keys, lower_of_key),
-        l,
-        keys,
-        lower_of_key,
-    )
+    let e = give_key(d, second, keys, lower_of_key);
+    give_key(e, l, keys, lower_of_key)
 }
 
 // Keys for all m blocks: the key of each offset that starts one into `keys`, and these offsets in the order of their keys to the front of `lower_of_key`.
-pub fn number_blocks(
+fn number_blocks(
     goes: &[u16],
     lowers: &[u16],
     m: usize,
@@ -78,18 +75,37 @@ pub fn number_blocks(
     keys: &mut [u16],
     lower_of_key: &mut [u16],
 ) -> usize
-    requires { ⌜ BlockArrays (now goes) (now lowers) (now uppers) m (length (now keys)) × ((o : ℕ) → getD (now keys) o 0 ≡ 0) × (length (now keys) ≤ length (now «lower_of_key»)) × (length (now keys) < 65534) ⌝ }
+    requires { ⌜ BlockArrays (now goes) (now lowers) (now uppers) m (length (now keys)) × ((o : ℕ) → getD (now keys) o 0 ≡ 0) × (length (now keys) ≤ length (now «lower_of_key»)) × (length (now keys) ≤ maxInstructions) ⌝ }
     ensures { λ r. ⌜ Gives (gather (takers (now (goes .entry)) (now (uppers .entry))) (take m (now (lowers .entry)))) (now (keys .entry)) (now («lower_of_key» .entry)) 0 (now (keys .exit)) (now («lower_of_key» .exit)) r ⌝ }
 {
     let mut c = 0;
     let mut b = 0;
     while b < m {
-        let l = u16_to_usize(lowers[b]);
-        let u = u16_to_usize(uppers[l]);
-        c = number_block(c, goes, l, u, keys, lower_of_key);
+        let k = block_at(lowers, uppers, b);
+        c = number_block(c, goes, k.lower, k.upper, keys, lower_of_key);
         b += 1;
     }
     c
+}
+
+// The blocks of a sheet of n instructions, the offsets of whose labels are `targets`, and their keys: the successors of every offset, the lowers by offset, the upper of
+// every offset, the key of each lower and the lowers in the order of their keys; how many blocks.
+pub fn find_keys(
+    sheet: &[u8],
+    n: usize,
+    targets: &[u16],
+    goes: &mut [u16],
+    lowers: &mut [u16],
+    uppers: &mut [u16],
+    keys: &mut [u16],
+    lower_of_key: &mut [u16],
+) -> usize
+    requires { ⌜ CheckedSheet (now sheet) n (now targets) × (2 * n ≤ length (now goes)) × (n ≤ length (now lowers)) × (n ≤ length (now uppers)) × (length (now keys) ≡ maxInstructions) × ((o : ℕ) → getD (now keys) o 0 ≡ 0) × (maxInstructions ≤ length (now «lower_of_key»)) ⌝ }
+    ensures { λ r. ⌜ BlocksFound (codeOf (now (sheet .entry))) r (now (goes .exit)) (now (lowers .exit)) (now (uppers .exit)) × Numbered (codeOf (now (sheet .entry))) (now (keys .exit)) (now («lower_of_key» .exit)) r ⌝ }
+{
+    let m = find_blocks(sheet, n, targets, goes, lowers, uppers);
+    number_blocks(goes, lowers, m, uppers, keys, lower_of_key);
+    m
 }
 
 fn key_or(key: u16, last: u16) -> u16
@@ -112,5 +128,54 @@ pub fn spread_keys(keys: &mut [u16], n: usize)
         last = key_or(keys[k], last);
         keys[k] = last;
         k += 1;
+    }
+}
+
+// These keys, and behind them that of offset o, where it is one.
+fn with_key(e: Successors, o: u16, keys: &[u16]) -> Successors
+    requires { ⌜ (e .count ≤ 1) × ((o ≡ noOffset → ⊥) → o < length (now keys)) ⌝ }
+    ensures { λ r. ⌜ (offsetsOf r ≡ offsetsOf e ++ map (λ o. getD (now (keys .entry)) o 0) (offsetIn o)) × (r .count ≤ e .count + 1) ⌝ }
+{
+    if o == NO_OFFSET {
+        return e;
+    }
+    let key = keys[u16_to_usize(o)];
+    if e.count == 0 {
+        return Successors {
+            count: 1,
+            first: key,
+            second: 0,
+        };
+    }
+    Successors {
+        count: 2,
+        first: e.first,
+        second: key,
+    }
+}
+
+// The keys of the successors of offset u.
+pub fn successor_keys(goes: &[u16], u: usize, keys: &[u16]) -> Successors
+    requires { ⌜ Near (length (now keys)) (now goes) u ⌝ }
+    ensures { λ r. ⌜ offsetsOf r ≡ succKeysIn (now (keys .entry)) (now (goes .entry)) u ⌝ }
+{
+    let at = 2 * u;
+    let none = Successors {
+        count: 0,
+        first: 0,
+        second: 0,
+    };
+    let e = with_key(none, goes[at], keys);
+    with_key(e, goes[at + 1], keys)
+}
+
+// Three keys.
+pub fn three(first: u16, second: u16, third: u16) -> Three
+    ensures { λ r. ⌜ threeOf r ≡ first ∷ second ∷ third ∷ [] ⌝ }
+{
+    Three {
+        first,
+        second,
+        third,
     }
 }

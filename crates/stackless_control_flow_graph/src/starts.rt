@@ -4,9 +4,11 @@ ghost use mathlib.Core.List.{_∷_};
 ghost use Prim.Native.Nat.{ℕ, _+_, _*_, _≤_, _<_};
 ghost use lib.ListN.{length, getD};
 ghost use Rattle.sheet.specs.Layout.{codeOf};
-ghost use Rattle.stackless_control_flow_graph.specs.Arrays.{noOffset, listOf, putTwo, markAll, Within, SuccessorsTo, Marked, Visits, CheckedSheet};
+ghost use Rattle.stackless_control_flow_graph.specs.Arrays.{offsetsOf, putTwo, markAll, Within, SuccessorsTo, Marked, Visits, CheckedSheet};
 use crate::Successors;
 use crate::next::by_kind;
+use crate::next::first_or;
+use crate::next::second_or;
 use base::width::u16_to_usize;
 use base::width::usize_to_u16;
 use sheet::reader;
@@ -14,38 +16,20 @@ use sheet::reader;
 // Stands for no offset.
 pub const NO_OFFSET: u16 = 65535;
 
-fn first_of(e: Successors) -> u16
-    ensures { λ r. ⌜ r ≡ getD (listOf e) 0 noOffset ⌝ }
-{
-    if e.count == 0 {
-        return NO_OFFSET;
-    }
-    e.first
-}
-
-fn second_of(e: Successors) -> u16
-    ensures { λ r. ⌜ r ≡ getD (listOf e) 1 noOffset ⌝ }
-{
-    if e.count <= 1 {
-        return NO_OFFSET;
-    }
-    e.second
-}
-
 // The successors of offset k into its two places.
 fn put_two(goes: &mut [u16], k: usize, e: Successors)
-    requires { ⌜ (2 * k + 1 < length (now goes)) × (k < 65536) ⌝ }
-    ensures { λ _. ⌜ now (goes .exit) ≡ putTwo (now (goes .entry)) k (listOf e) ⌝ }
+    requires { ⌜ 2 * k + 1 < length (now goes) ⌝ }
+    ensures { λ _. ⌜ now (goes .exit) ≡ putTwo (now (goes .entry)) k (offsetsOf e) ⌝ }
 {
     let at = 2 * k;
-    goes[at] = first_of(e);
-    goes[at + 1] = second_of(e);
+    goes[at] = first_or(e, NO_OFFSET);
+    goes[at + 1] = second_or(e, NO_OFFSET);
 }
 
 // Blocks start at `next` and at these successors.
 fn mark_starts(marks: &mut [u8], next: usize, e: Successors)
-    requires { ⌜ Within (length (now marks)) (next ∷ listOf e) ⌝ }
-    ensures { λ _. ⌜ now (marks .exit) ≡ markAll (now (marks .entry)) (next ∷ listOf e) ⌝ }
+    requires { ⌜ Within (length (now marks)) (next ∷ offsetsOf e) ⌝ }
+    ensures { λ _. ⌜ now (marks .exit) ≡ markAll (now (marks .entry)) (next ∷ offsetsOf e) ⌝ }
 {
     marks[next] = 1;
     if e.count == 0 {

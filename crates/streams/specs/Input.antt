@@ -4,6 +4,6 @@ use Rattle.streams.specs.declared.Input as declared
 use Rattle.streams.specs.declared.Input.the-variants.{Bytes, Failed}
 
 -- nothing, where a read failed
-abbrev pub bytesOf : declared.Input → ℕ
-bytesOf (Bytes n) = n
-bytesOf Failed = 0
+abbrev pub bytesRead : declared.Input → ℕ
+bytesRead (Bytes n) = n
+bytesRead Failed = 0

@@ -24,12 +24,12 @@ use Rattle.worked.specs.Worked.{sets}
 use Rattle.worked.specs.Opened.{opened}
 
 -- a sheet of this many locals without parameters or references
-unfoldable pub sheet : ℕ → List Bytecode → List ℕ
-sheet locals code = sheetOf (headingOf locals 0 0) code
+unfoldable pub sheetWith : ℕ → List Bytecode → List ℕ
+sheetWith locals code = sheetOf (headingOf locals 0 0) code
 
 -- code rewritten with its own live sets: so many locals, these references
-unfoldable pub again : ℕ → ℕ → List Bytecode → List Bytecode
-again locals refs code = transformCode code (analyze code locals .info) refs
+unfoldable pub rewrittenOf : ℕ → ℕ → List Bytecode → List Bytecode
+rewrittenOf locals refs code = transformCode code (analyze code locals .info) refs
 
 -- 15 Branches whose else edge, to label l, loses 64 references: 41 instructions that would become 1,031
 unfoldable pub losing : ℕ → List ℕ
@@ -54,23 +54,23 @@ pub record Refusals : Type 0 where
   -- a spare whole block, and a missing one
   pub refused-3-spare : checkSheet (m1 ++ blockOf 2 (replicate (blockBytes - 4) 0)) ≡ Refused 3 0
   pub refused-3-missing : checkSheet (changed m1 4 16 19) ≡ Refused 3 0
-  pub refused-3-locals : checkSheet (sheet 65 (ret 0 [] ∷ [])) ≡ Refused 3 0
+  pub refused-3-locals : checkSheet (sheetWith 65 (ret 0 [] ∷ [])) ≡ Refused 3 0
   pub refused-3-mask : checkSheet (sheetOf (headingOf 1 0 2) (ret 0 [] ∷ [])) ≡ Refused 3 0
-  pub refused-4-kind : checkSheet (sheet 1 (ret 0 [] ∷ plain 12 0 0 0 0 [] [] ∷ [])) ≡ Refused 4 1
-  pub refused-4-sub : checkSheet (sheet 1 (plain 0 3 0 0 0 (0 ∷ []) (0 ∷ []) ∷ ret 0 [] ∷ [])) ≡ Refused 4 0
+  pub refused-4-kind : checkSheet (sheetWith 1 (ret 0 [] ∷ plain 12 0 0 0 0 [] [] ∷ [])) ≡ Refused 4 1
+  pub refused-4-sub : checkSheet (sheetWith 1 (plain 0 3 0 0 0 (0 ∷ []) (0 ∷ []) ∷ ret 0 [] ∷ [])) ≡ Refused 4 0
   -- a record past n, at its own place
-  pub refused-4-past : checkSheet (changed (sheet 1 (ret 0 [] ∷ ret 0 [] ∷ [])) 4 1 3) ≡ Refused 4 1
+  pub refused-4-past : checkSheet (changed (sheetWith 1 (ret 0 [] ∷ ret 0 [] ∷ [])) 4 1 3) ≡ Refused 4 1
   -- each check runs over the whole sheet before the next
-  pub refused-4-first : checkSheet (sheet 1 (ret 0 (1 ∷ []) ∷ plain 0 3 0 0 0 (0 ∷ []) (0 ∷ []) ∷ ret 0 [] ∷ [])) ≡ Refused 4 1
-  pub refused-5 : checkSheet (sheet 1 (ret 0 (1 ∷ []) ∷ [])) ≡ Refused 5 0
-  pub refused-5-abort : checkSheet (sheet 1 (flagged (call 0 Not [] []) 1 1 ∷ label 0 1 ∷ ret 0 [] ∷ [])) ≡ Refused 5 0
-  pub refused-6 : checkSheet (sheet 1 (label 0 1 ∷ label 0 1 ∷ ret 0 [] ∷ [])) ≡ Refused 6 1
-  pub refused-7 : checkSheet (sheet 1 (label 0 1 ∷ jump 0 9 ∷ [])) ≡ Refused 7 1
-  pub refused-8 : checkSheet (sheet 1 (load 0 0 ∷ [])) ≡ Refused 8 0
+  pub refused-4-first : checkSheet (sheetWith 1 (ret 0 (1 ∷ []) ∷ plain 0 3 0 0 0 (0 ∷ []) (0 ∷ []) ∷ ret 0 [] ∷ [])) ≡ Refused 4 1
+  pub refused-5 : checkSheet (sheetWith 1 (ret 0 (1 ∷ []) ∷ [])) ≡ Refused 5 0
+  pub refused-5-abort : checkSheet (sheetWith 1 (flagged (call 0 Not [] []) 1 1 ∷ label 0 1 ∷ ret 0 [] ∷ [])) ≡ Refused 5 0
+  pub refused-6 : checkSheet (sheetWith 1 (label 0 1 ∷ label 0 1 ∷ ret 0 [] ∷ [])) ≡ Refused 6 1
+  pub refused-7 : checkSheet (sheetWith 1 (label 0 1 ∷ jump 0 9 ∷ [])) ≡ Refused 7 1
+  pub refused-8 : checkSheet (sheetWith 1 (load 0 0 ∷ [])) ≡ Refused 8 0
   -- whether or not a path reaches the end
-  pub refused-8-unreached : checkSheet (sheet 1 (ret 0 [] ∷ load 0 0 ∷ [])) ≡ Refused 8 1
+  pub refused-8-unreached : checkSheet (sheetWith 1 (ret 0 [] ∷ load 0 0 ∷ [])) ≡ Refused 8 1
   -- a flagged Stop falls through
-  pub refused-8-stop : checkSheet (sheet 1 (label 0 1 ∷ flagged (call 0 Stop [] []) 1 0 ∷ [])) ≡ Refused 8 1
+  pub refused-8-stop : checkSheet (sheetWith 1 (label 0 1 ∷ flagged (call 0 Stop [] []) 1 0 ∷ [])) ≡ Refused 8 1
   pub refused-9-flow : flowReply m1 5 ≡ No 9 0
   pub refused-9-live : liveReply m1 15 ≡ No 9 0
   pub refused-9-rewrite : rewriteReply m1 (maxBytes - 1) ≡ No 9 0
@@ -81,7 +81,7 @@ pub record Refusals : Type 0 where
       ≡ Done 1024 (sheetOf (headingOf 3 0 2) (branch 0 1 3 0 ∷ label 1 1 ∷ call 2 ReadRef (2 ∷ []) (1 ∷ []) ∷ ret 3 (2 ∷ []) ∷ label 4 2 ∷ ret 65532 [] ∷ label 65533 3 ∷ call 65534 Destroy [] (1 ∷ []) ∷ jump 65535 2 ∷ []))
   pub refused-10-attr : rewriteReply (sheetOf (headingOf 3 0 2) (branch 0 1 2 0 ∷ label 1 1 ∷ call 2 ReadRef (2 ∷ []) (1 ∷ []) ∷ ret 3 (2 ∷ []) ∷ label 4 2 ∷ ret 65533 [] ∷ [])) maxBytes ≡ No 10 0
   -- 10 is asked only where a block is needed
-  pub unasked-10 : rewriteReply (sheet 1 (label 65535 65535 ∷ ret 0 [] ∷ [])) maxBytes ≡ Done 1024 (sheet 1 (label 65535 65535 ∷ ret 0 [] ∷ []))
+  pub unasked-10 : rewriteReply (sheetWith 1 (label 65535 65535 ∷ ret 0 [] ∷ [])) maxBytes ≡ Done 1024 (sheetWith 1 (label 65535 65535 ∷ ret 0 [] ∷ []))
   pub refused-11 : rewriteReply (losing 99) maxBytes ≡ No 11 0
   -- both at once is 10
   pub refused-10-first : rewriteReply (losing 65535) maxBytes ≡ No 10 0
@@ -93,7 +93,7 @@ pub record Refusals : Type 0 where
   pub refused-14 : inUseReply (record { count = 3; live = 0; numbers = [] }) 3 ≡ No 14 0
 
 pub refusals : Refusals
-unfolding sheet losing changed opened
+unfolding sheetWith losing changed opened
 refusals = record {
   refused-1 = refl;
   refused-2-check = refl;
@@ -211,30 +211,30 @@ room-for-more = record { after = after; before = before }
 
 pub record Rewritings : Type 0 where
   -- a Call takes the destination of a dead Assign too
-  pub dead-assign : again 2 0 (call 0 Not (0 ∷ []) [] ∷ assign 0 1 0 ∷ ret 0 [] ∷ []) ≡ call 0 Not (1 ∷ []) [] ∷ ret 0 [] ∷ []
+  pub dead-assign : rewrittenOf 2 0 (call 0 Not (0 ∷ []) [] ∷ assign 0 1 0 ∷ ret 0 [] ∷ []) ≡ call 0 Not (1 ∷ []) [] ∷ ret 0 [] ∷ []
   -- a Load that is dropped between the two keeps them apart, and a second rewriting merges them
-  pub apart : again 3 0 (call 0 Not (0 ∷ []) [] ∷ load 0 2 ∷ assign 0 1 0 ∷ ret 0 (1 ∷ []) ∷ []) ≡ call 0 Not (0 ∷ []) [] ∷ assign 0 1 0 ∷ ret 0 (1 ∷ []) ∷ []
-  pub second : again 3 0 (call 0 Not (0 ∷ []) [] ∷ assign 0 1 0 ∷ ret 0 (1 ∷ []) ∷ []) ≡ call 0 Not (1 ∷ []) [] ∷ ret 0 (1 ∷ []) ∷ []
+  pub apart : rewrittenOf 3 0 (call 0 Not (0 ∷ []) [] ∷ load 0 2 ∷ assign 0 1 0 ∷ ret 0 (1 ∷ []) ∷ []) ≡ call 0 Not (0 ∷ []) [] ∷ assign 0 1 0 ∷ ret 0 (1 ∷ []) ∷ []
+  pub second : rewrittenOf 3 0 (call 0 Not (0 ∷ []) [] ∷ assign 0 1 0 ∷ ret 0 (1 ∷ []) ∷ []) ≡ call 0 Not (1 ∷ []) [] ∷ ret 0 (1 ∷ []) ∷ []
   -- only one Assign a Call
-  pub one-assign : again 3 0 (call 0 Not (0 ∷ []) [] ∷ assign 0 1 0 ∷ assign 0 2 1 ∷ ret 0 (2 ∷ []) ∷ []) ≡ call 0 Not (1 ∷ []) [] ∷ assign 0 2 1 ∷ ret 0 (2 ∷ []) ∷ []
+  pub one-assign : rewrittenOf 3 0 (call 0 Not (0 ∷ []) [] ∷ assign 0 1 0 ∷ assign 0 2 1 ∷ ret 0 (2 ∷ []) ∷ []) ≡ call 0 Not (1 ∷ []) [] ∷ assign 0 2 1 ∷ ret 0 (2 ∷ []) ∷ []
   -- a destination listed twice is two destinations
-  pub two-destinations : again 2 0 (call 0 Not (0 ∷ 0 ∷ []) [] ∷ assign 0 1 0 ∷ ret 0 (1 ∷ []) ∷ []) ≡ call 0 Not (0 ∷ 0 ∷ []) [] ∷ assign 0 1 0 ∷ ret 0 (1 ∷ []) ∷ []
+  pub two-destinations : rewrittenOf 2 0 (call 0 Not (0 ∷ 0 ∷ []) [] ∷ assign 0 1 0 ∷ ret 0 (1 ∷ []) ∷ []) ≡ call 0 Not (0 ∷ 0 ∷ []) [] ∷ assign 0 1 0 ∷ ret 0 (1 ∷ []) ∷ []
   -- a destination that is used behind the Assign stays
-  pub used-again : again 2 0 (call 0 Not (0 ∷ []) [] ∷ assign 0 1 0 ∷ ret 0 (0 ∷ 1 ∷ []) ∷ []) ≡ call 0 Not (0 ∷ []) [] ∷ assign 0 1 0 ∷ ret 0 (0 ∷ 1 ∷ []) ∷ []
+  pub used-again : rewrittenOf 2 0 (call 0 Not (0 ∷ []) [] ∷ assign 0 1 0 ∷ ret 0 (0 ∷ 1 ∷ []) ∷ []) ≡ call 0 Not (0 ∷ []) [] ∷ assign 0 1 0 ∷ ret 0 (0 ∷ 1 ∷ []) ∷ []
   -- a Stop, and a flagged Call, merge as any Call
-  pub stop : again 2 0 (call 0 Stop (0 ∷ []) [] ∷ assign 0 1 0 ∷ ret 0 (1 ∷ []) ∷ []) ≡ call 0 Stop (1 ∷ []) [] ∷ ret 0 (1 ∷ []) ∷ []
-  pub flag : again 3 0 (flagged (call 0 Not (0 ∷ []) []) 1 2 ∷ assign 0 1 0 ∷ ret 0 (1 ∷ []) ∷ label 0 1 ∷ ret 0 [] ∷ []) ≡ flagged (call 0 Not (1 ∷ []) []) 1 2 ∷ ret 0 (1 ∷ []) ∷ label 0 1 ∷ ret 0 [] ∷ []
+  pub stop : rewrittenOf 2 0 (call 0 Stop (0 ∷ []) [] ∷ assign 0 1 0 ∷ ret 0 (1 ∷ []) ∷ []) ≡ call 0 Stop (1 ∷ []) [] ∷ ret 0 (1 ∷ []) ∷ []
+  pub flag : rewrittenOf 3 0 (flagged (call 0 Not (0 ∷ []) []) 1 2 ∷ assign 0 1 0 ∷ ret 0 (1 ∷ []) ∷ label 0 1 ∷ ret 0 [] ∷ []) ≡ flagged (call 0 Not (1 ∷ []) []) 1 2 ∷ ret 0 (1 ∷ []) ∷ label 0 1 ∷ ret 0 [] ∷ []
   -- both edges lose: the then block comes first; an unnamed Label and dropped attributes count for the numbers
-  pub both-edges : again 4 6 (branch 0 1 2 0 ∷ label 0 1 ∷ call 0 ReadRef (3 ∷ []) (1 ∷ []) ∷ ret 0 (3 ∷ []) ∷ label 0 2 ∷ call 0 ReadRef (3 ∷ []) (2 ∷ []) ∷ label 0 7 ∷ load 9 0 ∷ ret 0 (3 ∷ []) ∷ [])
+  pub both-edges : rewrittenOf 4 6 (branch 0 1 2 0 ∷ label 0 1 ∷ call 0 ReadRef (3 ∷ []) (1 ∷ []) ∷ ret 0 (3 ∷ []) ∷ label 0 2 ∷ call 0 ReadRef (3 ∷ []) (2 ∷ []) ∷ label 0 7 ∷ load 9 0 ∷ ret 0 (3 ∷ []) ∷ [])
       ≡ branch 0 8 9 0 ∷ label 0 1 ∷ call 0 ReadRef (3 ∷ []) (1 ∷ []) ∷ ret 0 (3 ∷ []) ∷ label 0 2 ∷ call 0 ReadRef (3 ∷ []) (2 ∷ []) ∷ label 0 7 ∷ ret 0 (3 ∷ [])
       ∷ label 10 8 ∷ call 11 Destroy [] (2 ∷ []) ∷ jump 12 1 ∷ label 13 9 ∷ call 14 Destroy [] (1 ∷ []) ∷ jump 15 2 ∷ []
   -- each Branch has blocks of its own
-  pub two-branches : again 2 2 (branch 0 1 2 0 ∷ label 0 1 ∷ branch 0 3 2 0 ∷ label 0 3 ∷ call 0 ReadRef (0 ∷ []) (1 ∷ []) ∷ ret 0 (0 ∷ []) ∷ label 0 2 ∷ ret 0 [] ∷ [])
+  pub two-branches : rewrittenOf 2 2 (branch 0 1 2 0 ∷ label 0 1 ∷ branch 0 3 2 0 ∷ label 0 3 ∷ call 0 ReadRef (0 ∷ []) (1 ∷ []) ∷ ret 0 (0 ∷ []) ∷ label 0 2 ∷ ret 0 [] ∷ [])
       ≡ branch 0 1 4 0 ∷ label 0 1 ∷ branch 0 3 5 0 ∷ label 0 3 ∷ call 0 ReadRef (0 ∷ []) (1 ∷ []) ∷ ret 0 (0 ∷ []) ∷ label 0 2 ∷ ret 0 []
       ∷ label 1 4 ∷ call 2 Destroy [] (1 ∷ []) ∷ jump 3 2 ∷ label 4 5 ∷ call 5 Destroy [] (1 ∷ []) ∷ jump 6 2 ∷ []
 
 pub rewritings : Rewritings
-unfolding again opened
+unfolding rewrittenOf opened
 rewritings = record {
   dead-assign = refl;
   apart = refl;

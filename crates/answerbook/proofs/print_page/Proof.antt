@@ -11,44 +11,14 @@ use Rattle.listing.specs.OutputLaws.{wrote-inside}
 use Rattle.answerbook.proofs.print_page.Statement.{statement}
 use Rattle.answerbook.proofs.print_page.Tie as tie
 
-slice-aggregate-check-into : tie.Need-slice-aggregate-check-into
-slice-aggregate-check-into c = search needs
-
-check-into-requires : tie.Need-check-into-requires
-check-into-requires c κs = search needs
-
-enum-known-f : tie.Need-enum-known-f
-enum-known-f c = search needs
-
-number-requires : tie.Need-number-requires
-number-requires c κs = search needs
-
-place-requires : tie.Need-place-requires
-place-requires c κs = search needs
-
-put-refused-requires : tie.Need-put-refused-requires
-put-refused-requires c κs = search needs
-
 slice-reshare-prefix-print : tie.Need-slice-reshare-prefix-print
 slice-reshare-prefix-print c = wrote-inside (c .before .before .put-refused .ensures)
 
 slice-aggregate-print : tie.Need-slice-aggregate-print
 slice-aggregate-print c = sym (length-take-le _ _ (wrote-inside (c .before .before .before .put-refused .ensures)))
 
-print-requires : tie.Need-print-requires
-print-requires c κs = search needs
-
-enum-told : tie.Need-enum-told
-enum-told c = search needs
-
 u16-at-requires : tie.Need-u16-at-requires
 u16-at-requires c κs = omega (arith, accepted-valid _ (accepted-by _ (c .before .before .before .check-into .ensures .0) (c .enum-told .given .1)) .size)
-
-cast-n : tie.Need-cast-n
-cast-n c = search needs
-
-slice-aggregate-print-sections : tie.Need-slice-aggregate-print-sections
-slice-aggregate-print-sections c = search needs
 
 print-sections-requires : tie.Need-print-sections-requires
 print-sections-requires c κs =
@@ -56,37 +26,25 @@ print-sections-requires c κs =
     let told = c .before .before .before .enum-told .given .1 in
     into-checked _ _ _ (accepted-by _ (p .check-into .ensures .0) told) (c .before .before .u16-at .ensures) (p .check-into .ensures .1 (ap verdictOf told)) (p .check-into .kept .1 .0)
 
-same-length : tie.Need-same-length
-same-length c = search needs
-
-returns : tie.Need-returns
-returns c = search needs
-
-same-length-2 : tie.Need-same-length-2
-same-length-2 c = search needs
-
-returns-2 : tie.Need-returns-2
-returns-2 c = search needs
-
 pub print-page-spec : {M : Type 1} → statement M
 print-page-spec =
     tie.close
     (tie.spec
-    slice-aggregate-check-into
-    check-into-requires
-    enum-known-f
-    number-requires
-    place-requires
-    put-refused-requires
+    (λ c. search needs)
+    (λ c κs. search needs)
+    (λ c. search needs)
+    (λ c κs. search needs)
+    (λ c κs. search needs)
+    (λ c κs. search needs)
     slice-reshare-prefix-print
     slice-aggregate-print
-    print-requires
-    enum-told
+    (λ c κs. search needs)
+    (λ c. search needs)
     u16-at-requires
-    cast-n
-    slice-aggregate-print-sections
+    (λ c. search needs)
+    (λ c. search needs)
     print-sections-requires
-    same-length
-    returns
-    same-length-2
-    returns-2)
+    (λ c. search needs)
+    (λ c. search needs)
+    (λ c. search needs)
+    (λ c. search needs))

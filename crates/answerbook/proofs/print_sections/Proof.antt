@@ -13,16 +13,10 @@ use Rattle.listing.specs.OutputLaws.{wrote-inside}
 use Rattle.answerbook.proofs.print_sections.Statement.{statement}
 use Rattle.answerbook.proofs.print_sections.Tie as tie
 
-slice-aggregate-analyze : tie.Need-slice-aggregate-analyze
-slice-aggregate-analyze c = search needs
-
 analyze-requires : tie.Need-analyze-requires
 analyze-requires c κs =
     let p = c .before .before .before .before .pre in
     (p, omega (arith, code-length (c .before .before .before .before .args .s .now), accepted-valid _ (p .accepted) .few, length-replicate {A = ℕ} (pairBytes * maxInstructions) 0))
-
-put-code-section-requires : tie.Need-put-code-section-requires
-put-code-section-requires c κs = search needs
 
 slice-reshare-prefix-print : tie.Need-slice-reshare-prefix-print
 slice-reshare-prefix-print c = wrote-inside (c .before .before .put-code-section .ensures)
@@ -30,35 +24,11 @@ slice-reshare-prefix-print c = wrote-inside (c .before .before .put-code-section
 slice-aggregate-print : tie.Need-slice-aggregate-print
 slice-aggregate-print c = sym (length-take-le _ _ (wrote-inside (c .before .before .before .put-code-section .ensures)))
 
-print-requires : tie.Need-print-requires
-print-requires c κs = search needs
-
-same-length : tie.Need-same-length
-same-length c = search needs
-
-returns : tie.Need-returns
-returns c = search needs
-
-put-flow-section-requires : tie.Need-put-flow-section-requires
-put-flow-section-requires c κs = search needs
-
 slice-reshare-prefix-print-2 : tie.Need-slice-reshare-prefix-print-2
 slice-reshare-prefix-print-2 c = wrote-inside (c .before .before .put-flow-section .ensures)
 
 slice-aggregate-print-2 : tie.Need-slice-aggregate-print-2
 slice-aggregate-print-2 c = sym (length-take-le _ _ (wrote-inside (c .before .before .before .put-flow-section .ensures)))
-
-print-requires-2 : tie.Need-print-requires-2
-print-requires-2 c κs = search needs
-
-same-length-2 : tie.Need-same-length-2
-same-length-2 c = search needs
-
-returns-2 : tie.Need-returns-2
-returns-2 c = search needs
-
-slice-aggregate-put-live-section : tie.Need-slice-aggregate-put-live-section
-slice-aggregate-put-live-section c = search needs
 
 put-live-section-requires : tie.Need-put-live-section-requires
 put-live-section-requires c κs =
@@ -72,18 +42,6 @@ slice-reshare-prefix-print-3 c = wrote-inside (c .before .before .put-live-secti
 slice-aggregate-print-3 : tie.Need-slice-aggregate-print-3
 slice-aggregate-print-3 c = sym (length-take-le _ _ (wrote-inside (c .before .before .before .put-live-section .ensures)))
 
-print-requires-3 : tie.Need-print-requires-3
-print-requires-3 c κs = search needs
-
-same-length-3 : tie.Need-same-length-3
-same-length-3 c = search needs
-
-returns-3 : tie.Need-returns-3
-returns-3 c = search needs
-
-slice-aggregate-put-rewritten-section : tie.Need-slice-aggregate-put-rewritten-section
-slice-aggregate-put-rewritten-section c = search needs
-
 put-rewritten-section-requires : tie.Need-put-rewritten-section-requires
 put-rewritten-section-requires c κs =
     let p = c .before .before .before .before .before .before .before .before .before .before .before .before .before .before .before .before .before .before .before .before .before .before .before .before .before .before .before .before .before .before .pre in
@@ -95,44 +53,35 @@ slice-reshare-prefix-print-4 c = wrote-inside (c .before .before .put-rewritten-
 slice-aggregate-print-4 : tie.Need-slice-aggregate-print-4
 slice-aggregate-print-4 c = sym (length-take-le _ _ (wrote-inside (c .before .before .before .put-rewritten-section .ensures)))
 
-print-requires-4 : tie.Need-print-requires-4
-print-requires-4 c κs = search needs
-
-same-length-4 : tie.Need-same-length-4
-same-length-4 c = search needs
-
-returns-4 : tie.Need-returns-4
-returns-4 c = search needs
-
 pub print-sections-spec : {M : Type 1} → statement M
 print-sections-spec =
     tie.close
     (tie.spec
-    slice-aggregate-analyze
+    (λ c. search needs)
     analyze-requires
-    put-code-section-requires
+    (λ c κs. search needs)
     slice-reshare-prefix-print
     slice-aggregate-print
-    print-requires
-    same-length
-    returns
-    put-flow-section-requires
+    (λ c κs. search needs)
+    (λ c. search needs)
+    (λ c. search needs)
+    (λ c κs. search needs)
     slice-reshare-prefix-print-2
     slice-aggregate-print-2
-    print-requires-2
-    same-length-2
-    returns-2
-    slice-aggregate-put-live-section
+    (λ c κs. search needs)
+    (λ c. search needs)
+    (λ c. search needs)
+    (λ c. search needs)
     put-live-section-requires
     slice-reshare-prefix-print-3
     slice-aggregate-print-3
-    print-requires-3
-    same-length-3
-    returns-3
-    slice-aggregate-put-rewritten-section
+    (λ c κs. search needs)
+    (λ c. search needs)
+    (λ c. search needs)
+    (λ c. search needs)
     put-rewritten-section-requires
     slice-reshare-prefix-print-4
     slice-aggregate-print-4
-    print-requires-4
-    same-length-4
-    returns-4)
+    (λ c κs. search needs)
+    (λ c. search needs)
+    (λ c. search needs))

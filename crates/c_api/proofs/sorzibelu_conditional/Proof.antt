@@ -6,16 +6,10 @@ use Rattle.c_api.specs.PackedLaws.{decides-of}
 use Rattle.c_api.proofs.sorzibelu_conditional.Statement.{statement}
 use Rattle.c_api.proofs.sorzibelu_conditional.Tie as tie
 
-conditional-requires : tie.Need-conditional-requires
-conditional-requires c κs = search needs
-
-pack-requires : tie.Need-pack-requires
-pack-requires c κs = search needs
-
 returns : tie.Need-returns
 returns c =
     let e = c .before .conditional .ensures in
     (c .pack .ensures ∙ ap packed (e .0), decides-of (e .0) (e .1))
 
 pub sorzibelu-conditional-spec : {M : Type 1} → statement M
-sorzibelu-conditional-spec = tie.close (tie.spec conditional-requires pack-requires returns)
+sorzibelu-conditional-spec = tie.close (tie.spec (λ c κs. search needs) (λ c κs. search needs) returns)

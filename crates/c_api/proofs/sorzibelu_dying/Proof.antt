@@ -6,19 +6,10 @@ use Rattle.c_api.specs.PackedLaws.{dying-of}
 use Rattle.c_api.proofs.sorzibelu_dying.Statement.{statement}
 use Rattle.c_api.proofs.sorzibelu_dying.Tie as tie
 
-dying-requires : tie.Need-dying-requires
-dying-requires c κs = search needs
-
-pack-requires : tie.Need-pack-requires
-pack-requires c κs = search needs
-
-same-length : tie.Need-same-length
-same-length c = search needs
-
 returns : tie.Need-returns
 returns c =
     let e = c .before .before .before .dying .ensures in
     (c .pack .ensures ∙ ap packed (e .0), (e .1 .0, dying-of (e .0) _ (e .1 .1)))
 
 pub sorzibelu-dying-spec : {M : Type 1} → statement M
-sorzibelu-dying-spec = tie.close (tie.spec dying-requires pack-requires same-length returns)
+sorzibelu-dying-spec = tie.close (tie.spec (λ c κs. search needs) (λ c κs. search needs) (λ c. search needs) returns)

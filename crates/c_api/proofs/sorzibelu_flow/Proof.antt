@@ -6,19 +6,10 @@ use Rattle.c_api.specs.PackedLaws.{flow-of}
 use Rattle.c_api.proofs.sorzibelu_flow.Statement.{statement}
 use Rattle.c_api.proofs.sorzibelu_flow.Tie as tie
 
-flow-requires : tie.Need-flow-requires
-flow-requires c κs = search needs
-
-pack-requires : tie.Need-pack-requires
-pack-requires c κs = search needs
-
-same-length : tie.Need-same-length
-same-length c = search needs
-
 returns : tie.Need-returns
 returns c =
     let e = c .before .before .before .flow .ensures in
     (c .pack .ensures ∙ ap packed (e .0), (e .1 .0, flow-of (e .0) (e .1 .1)))
 
 pub sorzibelu-flow-spec : {M : Type 1} → statement M
-sorzibelu-flow-spec = tie.close (tie.spec flow-requires pack-requires same-length returns)
+sorzibelu-flow-spec = tie.close (tie.spec (λ c κs. search needs) (λ c κs. search needs) (λ c. search needs) returns)

@@ -6,16 +6,10 @@ use Rattle.c_api.specs.PackedLaws.{decides-of}
 use Rattle.c_api.proofs.sorzibelu_in_use.Statement.{statement}
 use Rattle.c_api.proofs.sorzibelu_in_use.Tie as tie
 
-in-use-requires : tie.Need-in-use-requires
-in-use-requires c κs = search needs
-
-pack-requires : tie.Need-pack-requires
-pack-requires c κs = search needs
-
 returns : tie.Need-returns
 returns c =
     let e = c .before .in-use .ensures in
     (c .pack .ensures ∙ ap packed (e .0), decides-of (e .0) (e .1))
 
 pub sorzibelu-in-use-spec : {M : Type 1} → statement M
-sorzibelu-in-use-spec = tie.close (tie.spec in-use-requires pack-requires returns)
+sorzibelu-in-use-spec = tie.close (tie.spec (λ c κs. search needs) (λ c κs. search needs) returns)

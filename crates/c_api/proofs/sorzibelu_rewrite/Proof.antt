@@ -6,19 +6,10 @@ use Rattle.c_api.specs.PackedLaws.{rewriting-of}
 use Rattle.c_api.proofs.sorzibelu_rewrite.Statement.{statement}
 use Rattle.c_api.proofs.sorzibelu_rewrite.Tie as tie
 
-rewrite-requires : tie.Need-rewrite-requires
-rewrite-requires c κs = search needs
-
-pack-requires : tie.Need-pack-requires
-pack-requires c κs = search needs
-
-same-length : tie.Need-same-length
-same-length c = search needs
-
 returns : tie.Need-returns
 returns c =
     let e = c .before .before .before .rewrite .ensures in
     (c .pack .ensures ∙ ap packed (e .0), (e .1 .0, rewriting-of (e .0) _ (e .1 .1)))
 
 pub sorzibelu-rewrite-spec : {M : Type 1} → statement M
-sorzibelu-rewrite-spec = tie.close (tie.spec rewrite-requires pack-requires same-length returns)
+sorzibelu-rewrite-spec = tie.close (tie.spec (λ c κs. search needs) (λ c κs. search needs) (λ c. search needs) returns)

@@ -8,32 +8,8 @@ use Rattle.dataflow_analysis.specs.ReceiptLaws.{news-first, news-again, 
 use Rattle.dataflow_analysis.proofs.receive_at.Statement.{statement}
 use Rattle.dataflow_analysis.proofs.receive_at.Tie as tie
 
-load-requires : tie.Need-load-requires
-load-requires c κs = search needs
-
-join-requires : tie.Need-join-requires
-join-requires c κs = search needs
-
-slice-read-if1 : tie.Need-slice-read-if1
-slice-read-if1 c = search needs
-
-store-requires : tie.Need-store-requires
-store-requires c κs = search needs
-
-slice-write-met : tie.Need-slice-write-met
-slice-write-met c = search needs
-
 put-requires : tie.Need-put-requires
 put-requires c κs = c .before .before .before .before .before .before .before .before .before .before .before .before .before .before .pre .2 (news-first _ _ _ _ (c .before .before .before .before .before .if1 .taken))
-
-same-length : tie.Need-same-length
-same-length c = search needs
-
-same-length-2 : tie.Need-same-length-2
-same-length-2 c = search needs
-
-same-length-3 : tie.Need-same-length-3
-same-length-3 c = search needs
 
 returns : tie.Need-returns
 returns c =
@@ -42,38 +18,14 @@ returns c =
     let news : newsAt (a .sets .now) (a .met .now) (a .p) (mask (a .m)) ≡ true = news-first _ _ _ _ (c .before .before .before .before .before .before .before .before .if1 .taken) in
     received-news (a .sets .now) (a .met .now) (a .q .now) (a .c) (a .p) (mask (a .m)) _ _ _ _ _ news (c .before .before .before .before .before .before .before .before .before .before .before .before .load .ensures) (c .before .before .before .before .before .before .before .before .before .before .before .join .ensures .0) (c .before .before .before .before .before .before .store .ensures) (c17 .pre .2 news) (c .before .before .put .ensures)
 
-enum-told : tie.Need-enum-told
-enum-told c = search needs
-
-enum-told-2 : tie.Need-enum-told-2
-enum-told-2 c = search needs
-
-store-requires-2 : tie.Need-store-requires-2
-store-requires-2 c κs = search needs
-
-slice-write-met-2 : tie.Need-slice-write-met-2
-slice-write-met-2 c = search needs
-
 put-requires-2 : tie.Need-put-requires-2
 put-requires-2 c κs =
     c .before .before .before .before .before .before .before .before .before .before .before .before .before .before .before .before .pre .2 (news-again _ _ _ _ _ (c .before .before .before .before .before .before .before .before .before .before .before .load .ensures) (c .before .before .before .before .before .before .before .if1 .left) ∙ sym (c .before .before .before .before .before .before .before .before .before .before .join .ensures .1) ∙ ap isChanged (c .before .before .before .before .before .enum-told2 .given .1))
-
-same-length-4 : tie.Need-same-length-4
-same-length-4 c = search needs
 
 returns-2 : tie.Need-returns-2
 returns-2 c = let a = c .before .before .before .before .before .before .before .before .before .before .before .args in
     let news : newsAt (a .sets .now) (a .met .now) (a .p) (mask (a .m)) ≡ false = news-again _ _ _ _ _ (c .before .before .before .before .before .before .load .ensures) (c .before .before .if1 .left) ∙ sym (c .before .before .before .before .before .join .ensures .1) ∙ ap isChanged (c .enum-told .given .1) in
     received-none (a .sets .now) (a .met .now) (a .q .now) (a .c) (a .p) (mask (a .m)) news
-
-same-length-5 : tie.Need-same-length-5
-same-length-5 c = search needs
-
-same-length-6 : tie.Need-same-length-6
-same-length-6 c = search needs
-
-same-length-7 : tie.Need-same-length-7
-same-length-7 c = search needs
 
 returns-3 : tie.Need-returns-3
 returns-3 c =
@@ -88,24 +40,24 @@ pub receive-at-spec : {M : Type 1} → statement M
 receive-at-spec =
     tie.close
     (tie.spec
-    load-requires
-    join-requires
-    slice-read-if1
-    store-requires
-    slice-write-met
+    (λ c κs. search needs)
+    (λ c κs. search needs)
+    (λ c. search needs)
+    (λ c κs. search needs)
+    (λ c. search needs)
     put-requires
-    same-length
-    same-length-2
-    same-length-3
+    (λ c. search needs)
+    (λ c. search needs)
+    (λ c. search needs)
     returns
-    enum-told
-    enum-told-2
-    store-requires-2
-    slice-write-met-2
+    (λ c. search needs)
+    (λ c. search needs)
+    (λ c κs. search needs)
+    (λ c. search needs)
     put-requires-2
-    same-length-4
+    (λ c. search needs)
     returns-2
-    same-length-5
-    same-length-6
-    same-length-7
+    (λ c. search needs)
+    (λ c. search needs)
+    (λ c. search needs)
     returns-3)

@@ -12,27 +12,15 @@ use lib.ListN.{length, take, length-take}
 front-long : (n : ℕ) (xs : List ℕ) → n ≤ length xs → n ≡ length (take n xs)
 front-long n xs h = sym (length-take n xs ∙ (omega arith))
 
-slice-relend-prefix-show-next : tie.Need-slice-relend-prefix-show-next
-slice-relend-prefix-show-next c = search needs
-
 slice-aggregate-show-next : tie.Need-slice-aggregate-show-next
 slice-aggregate-show-next c = front-long _ _ (search needs)
-
-show-next-requires : tie.Need-show-next-requires
-show-next-requires c κs = search needs
-
-same-length : tie.Need-same-length
-same-length c = search needs
-
-returns : tie.Need-returns
-returns c = search needs
 
 pub show-front-spec : {M : Type 1} → statement M
 show-front-spec =
     tie.close
     (tie.spec
-    slice-relend-prefix-show-next
+    (λ c. search needs)
     slice-aggregate-show-next
-    show-next-requires
-    same-length
-    returns)
+    (λ c κs. search needs)
+    (λ c. search needs)
+    (λ c. search needs))

@@ -20,14 +20,8 @@ abbrev μ-loop : tie.MeasureT-loop
 loop-holds : tie.Need-loop-holds Inv-loop μ-loop
 loop-holds c = kept-all _ _
 
-is-empty-requires : tie.Need-is-empty-requires Inv-loop μ-loop
-is-empty-requires c κs = search needs
-
 take-lowest-requires : tie.Need-take-lowest-requires Inv-loop μ-loop
 take-lowest-requires c κs = eqb-false _ _ (sym (c .before .is-empty .ensures) ∙ not-true _ (c .if1 .taken))
-
-u8-to-usize-requires : tie.Need-u8-to-usize-requires Inv-loop μ-loop
-u8-to-usize-requires c κs = search needs
 
 returns : tie.Need-returns Inv-loop μ-loop
 returns c = kept-one (c .before .before .before .before .before .loop .inv) (c .before .before .take-lowest .ensures .0 .has) (omega (arith, c .before .u8-to-usize .ensures .0, c .if2 .taken))
@@ -50,9 +44,9 @@ all-below-spec =
     Inv-loop
     μ-loop
     loop-holds
-    is-empty-requires
+    (λ c κs. search needs)
     take-lowest-requires
-    u8-to-usize-requires
+    (λ c κs. search needs)
     returns
     loop-less
     loop-again

@@ -7,36 +7,15 @@ use Rattle.borrow_analysis.specs.GraphLaws.{first-graph}
 use Rattle.borrow_analysis.proofs.graph.check_asked.Statement.{statement}
 use Rattle.borrow_analysis.proofs.graph.check_asked.Tie as tie
 
-check-nodes-requires : tie.Need-check-nodes-requires
-check-nodes-requires c κs = search needs
-
-enum-told : tie.Need-enum-told
-enum-told c = search needs
-
-enum-told-2 : tie.Need-enum-told-2
-enum-told-2 c = search needs
-
 returns : tie.Need-returns
 unfolding checkAsked
 returns c = refused-by _ _ _ (c .before .before .check-nodes .ensures ∙ first-graph _ _) (c .enum-told2 .given .1)
-
-check-triples-requires : tie.Need-check-triples-requires
-check-triples-requires c κs = search needs
-
-enum-told-3 : tie.Need-enum-told-3
-enum-told-3 c = search needs
-
-enum-told-4 : tie.Need-enum-told-4
-enum-told-4 c = search needs
 
 returns-2 : tie.Need-returns-2
 unfolding checkAsked
 returns-2 c =
     refused-by _ _ _ (c .before .before .check-triples .ensures ∙ first-graph _ _) (c .enum-told4 .given .1)
     ∙ sym (then-goes _ (accepted-by _ (c .before .before .before .before .before .check-nodes .ensures ∙ first-graph _ _) (c .before .before .before .enum-told .given .1)))
-
-check-node-requires : tie.Need-check-node-requires
-check-node-requires c κs = search needs
 
 returns-3 : tie.Need-returns-3
 unfolding checkAsked
@@ -50,13 +29,13 @@ pub check-asked-spec : {M : Type 1} → statement M
 check-asked-spec =
     tie.close
     (tie.spec
-    check-nodes-requires
-    enum-told
-    enum-told-2
+    (λ c κs. search needs)
+    (λ c. search needs)
+    (λ c. search needs)
     returns
-    check-triples-requires
-    enum-told-3
-    enum-told-4
+    (λ c κs. search needs)
+    (λ c. search needs)
+    (λ c. search needs)
     returns-2
-    check-node-requires
+    (λ c κs. search needs)
     returns-3)

@@ -6,9 +6,6 @@ use Rattle.borrow_analysis.specs.GraphLaws.{moved-whole, moved-fine}
 use Rattle.borrow_analysis.proofs.graph.check_nodes.Statement.{statement}
 use Rattle.borrow_analysis.proofs.graph.check_nodes.Tie as tie
 
-nodes-ok-requires : tie.Need-nodes-ok-requires
-nodes-ok-requires c κs = search needs
-
 returns : tie.Need-returns
 returns c = accepted-none 12 (moved-fine _ (sym (c .before .nodes-ok .ensures) ∙ c .if1 .taken))
 
@@ -16,4 +13,4 @@ returns-2 : tie.Need-returns-2
 returns-2 c = refused-at 12 (moved-whole _ (sym (c .before .nodes-ok .ensures) ∙ c .if1 .left))
 
 pub check-nodes-spec : {M : Type 1} → statement M
-check-nodes-spec = tie.close (tie.spec nodes-ok-requires returns returns-2)
+check-nodes-spec = tie.close (tie.spec (λ c κs. search needs) returns returns-2)

@@ -7,23 +7,11 @@ use Rattle.borrow_analysis.specs.GraphLaws.{place-small, moved-at, moved
 use Rattle.borrow_analysis.proofs.graph.check_triples.Statement.{statement}
 use Rattle.borrow_analysis.proofs.graph.check_triples.Tie as tie
 
-triples-bad-requires : tie.Need-triples-bad-requires
-triples-bad-requires c κs = search needs
-
-enum-known-p : tie.Need-enum-known-p
-enum-known-p c = search needs
-
-mul-t7 : tie.Need-mul-t7
-mul-t7 c = search needs
-
 cast-t8 : tie.Need-cast-t8
 cast-t8 c = omega (arith, place-small _ _ _ (found-at _ _ (sym (c .before .p .given .1) ∙ c .before .before .before .triples-bad .ensures)))
 
 add-t9 : tie.Need-add-t9
 add-t9 c = omega (arith, place-small _ _ _ (found-at _ _ (sym (c .before .p .given .1) ∙ c .before .before .before .triples-bad .ensures)))
-
-enum-told : tie.Need-enum-told
-enum-told c = search needs
 
 returns : tie.Need-returns
 returns c = refused-at 13 (moved-at _ (found-at _ _ (sym (c .before .p .given .1) ∙ c .before .before .before .triples-bad .ensures)))
@@ -34,4 +22,4 @@ returns-2 c = accepted-none 13 (moved-none _ (found-none _ (sym (c .enum-told .g
 pub check-triples-spec : {M : Type 1} → statement M
 check-triples-spec =
     tie.close
-    (tie.spec triples-bad-requires enum-known-p mul-t7 cast-t8 add-t9 enum-told returns returns-2)
+    (tie.spec (λ c κs. search needs) (λ c. search needs) (λ c. search needs) cast-t8 add-t9 (λ c. search needs) returns returns-2)

@@ -23,17 +23,8 @@ loop-holds : tie.Need-loop-holds Inv-loop μ-loop
 loop-holds c = let n = length (c .before .args .triples .now) / 3 in
     (search needs, ap (λ (k : ℕ). firstBad k 0 (tripleOk (c .before .args .nodes) (c .before .args .triples .now))) (sym (sub-zero n)))
 
-triple-ok-requires : tie.Need-triple-ok-requires Inv-loop μ-loop
-triple-ok-requires c κs = search needs
-
 returns : tie.Need-returns Inv-loop μ-loop
 returns c = ap foundOf (sym (c .before .before .before .loop .inv .1 ∙ bad-stop _ _ _ (c .before .before .loop-test .taken) (sym (c .before .triple-ok .ensures) ∙ not-true _ (c .if1 .taken))))
-
-add-i : tie.Need-add-i Inv-loop μ-loop
-add-i c = search needs
-
-loop-less : tie.Need-loop-less Inv-loop μ-loop
-loop-less c = search needs
 
 loop-again : tie.Need-loop-again Inv-loop μ-loop
 loop-again c = (omega arith, c .before .before .before .loop .inv .1 ∙ bad-more _ _ _ (c .before .before .loop-test .taken) (sym (c .before .triple-ok .ensures) ∙ not-false _ (c .if1 .left)))
@@ -48,9 +39,9 @@ first-bad-spec =
     Inv-loop
     μ-loop
     loop-holds
-    triple-ok-requires
+    (λ c κs. search needs)
     returns
-    add-i
-    loop-less
+    (λ c. search needs)
+    (λ c. search needs)
     loop-again
     returns-2)

@@ -6,12 +6,9 @@ use borrow.Author.Needs.{needs}
 use Rattle.borrow_analysis.proofs.graph.live_set.Statement.{statement}
 use Rattle.borrow_analysis.proofs.graph.live_set.Tie as tie
 
-array-write-a : tie.Need-array-write-a
-array-write-a c = search needs
-
 returns : tie.Need-returns
 unfolding mask maskOf
 returns c = omega arith
 
 pub live-set-spec : {M : Type 1} → statement M
-live-set-spec = tie.close (tie.spec array-write-a returns)
+live-set-spec = tie.close (tie.spec (λ c. search needs) returns)

@@ -10,14 +10,8 @@ use Rattle.borrow_analysis.proofs.graph.nodes_ok.Tie as tie
 returns : tie.Need-returns
 returns c = nodes-many _ _ (c .if1 .taken)
 
-live-set-requires : tie.Need-live-set-requires
-live-set-requires c κs = search needs
-
-all-below-requires : tie.Need-all-below-requires
-all-below-requires c κs = search needs
-
 returns-2 : tie.Need-returns-2
 returns-2 c = c .all-below .ensures ∙ ap (λ (m : ℕ). ltb m (2 ^ (c .before .before .before .args .nodes))) (c .before .live-set .ensures) ∙ nodes-few _ _ (c .before .before .if1 .left)
 
 pub nodes-ok-spec : {M : Type 1} → statement M
-nodes-ok-spec = tie.close (tie.spec returns live-set-requires all-below-requires returns-2)
+nodes-ok-spec = tie.close (tie.spec returns (λ c κs. search needs) (λ c κs. search needs) returns-2)

@@ -10,9 +10,6 @@ use Rattle.borrow_analysis.specs.GraphLaws.{triple-is}
 use Rattle.borrow_analysis.proofs.graph.triple_ok.Statement.{statement}
 use Rattle.borrow_analysis.proofs.graph.triple_ok.Tie as tie
 
-triple-at-requires : tie.Need-triple-at-requires
-triple-at-requires c κs = search needs
-
 returns : tie.Need-returns
 returns c = triple-is _ _ _ (c .before .before .triple-at .ensures) false _ _ _ (le-ltb _ _ (c .if1 .taken)) refl refl refl
 
@@ -21,15 +18,6 @@ returns-2 c = triple-is _ _ _ (c .before .before .before .before .triple-at .ens
 
 returns-3 : tie.Need-returns-3
 returns-3 c = triple-is _ _ _ (c .before .before .before .before .before .triple-at .ensures) true true true _ (lt-ltb _ _ (c .before .before .before .if1 .left)) (lt-ltb _ _ (c .before .if2 .left)) (eq-eqb _ _ (c .if3 .taken)) refl
-
-sub-triple-at : tie.Need-sub-triple-at
-sub-triple-at c = search needs
-
-triple-at-requires-2 : tie.Need-triple-at-requires-2
-triple-at-requires-2 c κs = search needs
-
-precedes-requires : tie.Need-precedes-requires
-precedes-requires c κs = search needs
 
 returns-4 : tie.Need-returns-4
 returns-4 c =
@@ -41,11 +29,11 @@ pub triple-ok-spec : {M : Type 1} → statement M
 triple-ok-spec =
     tie.close
     (tie.spec
-    triple-at-requires
+    (λ c κs. search needs)
     returns
     returns-2
     returns-3
-    sub-triple-at
-    triple-at-requires-2
-    precedes-requires
+    (λ c. search needs)
+    (λ c κs. search needs)
+    (λ c κs. search needs)
     returns-4)

@@ -12,11 +12,8 @@ returns c = ap foundOf (length-odd _ _ (c .if1 .taken))
 returns-2 : tie.Need-returns-2
 returns-2 c = ap foundOf (length-over _ _ (c .before .if1 .left) (c .if2 .taken))
 
-first-bad-requires : tie.Need-first-bad-requires
-first-bad-requires c κs = search needs
-
 returns-3 : tie.Need-returns-3
 returns-3 c = c .first-bad .ensures ∙ ap foundOf (length-fine _ _ (c .before .before .if1 .left) (c .before .if2 .left))
 
 pub triples-bad-spec : {M : Type 1} → statement M
-triples-bad-spec = tie.close (tie.spec returns returns-2 first-bad-requires returns-3)
+triples-bad-spec = tie.close (tie.spec returns returns-2 (λ c κs. search needs) returns-3)

@@ -20,38 +20,8 @@ Inv-loop triples n last₀ many₀ i₀ last many i = (i ≤ n) × (length last 
 abbrev μ-loop : tie.MeasureT-loop
 μ-loop triples n last₀ many₀ i₀ last many i = n - i
 
-empty-requires : tie.Need-empty-requires Inv-loop μ-loop
-empty-requires c κs = search needs
-
 loop-holds : tie.Need-loop-holds Inv-loop μ-loop
 loop-holds c = (search needs, search needs, counted-none _ _ (c .empty .ensures))
-
-lead-at-requires : tie.Need-lead-at-requires Inv-loop μ-loop
-lead-at-requires c κs = search needs
-
-u8-to-usize-requires : tie.Need-u8-to-usize-requires Inv-loop μ-loop
-u8-to-usize-requires c κs = search needs
-
-mul-if1 : tie.Need-mul-if1 Inv-loop μ-loop
-mul-if1 c = search needs
-
-array-read-if1 : tie.Need-array-read-if1 Inv-loop μ-loop
-array-read-if1 c = search needs
-
-insert-requires : tie.Need-insert-requires Inv-loop μ-loop
-insert-requires c κs = search needs
-
-mul-last : tie.Need-mul-last Inv-loop μ-loop
-mul-last c = search needs
-
-array-write-last : tie.Need-array-write-last Inv-loop μ-loop
-array-write-last c = search needs
-
-add-i : tie.Need-add-i Inv-loop μ-loop
-add-i c = search needs
-
-loop-less : tie.Need-loop-less Inv-loop μ-loop
-loop-less c = search needs
 
 loop-again : tie.Need-loop-again Inv-loop μ-loop
 loop-again c =
@@ -74,16 +44,16 @@ many-in-spec =
     (tie.spec
     Inv-loop
     μ-loop
-    empty-requires
+    (λ c κs. search needs)
     loop-holds
-    lead-at-requires
-    u8-to-usize-requires
-    mul-if1
-    array-read-if1
-    insert-requires
-    mul-last
-    array-write-last
-    add-i
-    loop-less
+    (λ c κs. search needs)
+    (λ c κs. search needs)
+    (λ c. search needs)
+    (λ c. search needs)
+    (λ c κs. search needs)
+    (λ c. search needs)
+    (λ c. search needs)
+    (λ c. search needs)
+    (λ c. search needs)
     loop-again
     returns)

@@ -12,21 +12,9 @@ use Rattle.dataflow_analysis.proofs.Cursor.take.Tie as tie
 returns : tie.Need-returns
 returns c = let a = c .before .args in sym (ap (λ (l : List ℕ). takenOf l (a .self)) (list-none (a .q .now) (a .self) (c .if1 .taken)))
 
-mul-t6 : tie.Need-mul-t6
-mul-t6 c = search needs
-
-shared-slice-read-t8 : tie.Need-shared-slice-read-t8
-shared-slice-read-t8 c = search needs
-
-add-t9 : tie.Need-add-t9
-add-t9 c = search needs
-
-sub-t10 : tie.Need-sub-t10
-sub-t10 c = search needs
-
 returns-2 : tie.Need-returns-2
 returns-2 c = let a = c .before .before .args in
     sym (ap (λ (l : List ℕ). takenOf l (a .self)) (take-first (a .q .now) (a .self) (omega arith) (omega arith)))
 
 pub take-spec : {M : Type 1} → statement M
-take-spec = tie.close (tie.spec returns mul-t6 shared-slice-read-t8 add-t9 sub-t10 returns-2)
+take-spec = tie.close (tie.spec returns (λ c. search needs) (λ c. search needs) (λ c. search needs) (λ c. search needs) returns-2)

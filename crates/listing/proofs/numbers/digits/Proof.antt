@@ -21,9 +21,6 @@ loop-holds c = (omega arith, omega arith)
 add-n : tie.Need-add-n Inv-loop μ-loop
 add-n c = omega (arith, decimal-short 9 (c .before .before .args .x) (omega arith))
 
-loop-less : tie.Need-loop-less Inv-loop μ-loop
-loop-less c = search needs
-
 loop-again : tie.Need-loop-again Inv-loop μ-loop
 loop-again c = (omega arith, omega (arith, digit-less (c .before .loop .y) (omega arith) (omega arith)))
 
@@ -31,4 +28,4 @@ returns : tie.Need-returns Inv-loop μ-loop
 returns c = omega (arith, ap length (decimal-small (c .before .loop .y) (omega arith)))
 
 pub digits-spec : {M : Type 1} → statement M
-digits-spec = tie.close (tie.spec Inv-loop μ-loop loop-holds add-n loop-less loop-again returns)
+digits-spec = tie.close (tie.spec Inv-loop μ-loop loop-holds add-n (λ c. search needs) loop-again returns)

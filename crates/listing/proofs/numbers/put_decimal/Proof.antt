@@ -16,12 +16,6 @@ Inv-loop x out₀ at end i₀ y₀ out i y = Ending out₀ at x y i out
 abbrev μ-loop : tie.MeasureT-loop
 μ-loop x out₀ at end i₀ y₀ out i y = y
 
-digits-requires : tie.Need-digits-requires Inv-loop μ-loop
-digits-requires c κs = search needs
-
-add-end : tie.Need-add-end Inv-loop μ-loop
-add-end c = search needs
-
 loop-holds : tie.Need-loop-holds Inv-loop μ-loop
 loop-holds c =
     let s = c .before .before .args in
@@ -29,12 +23,6 @@ loop-holds c =
 
 sub-i : tie.Need-sub-i Inv-loop μ-loop
 sub-i c = omega (arith, digit-less (c .before .loop .y) (omega arith) (omega arith))
-
-cast-out : tie.Need-cast-out Inv-loop μ-loop
-cast-out c = search needs
-
-add-out : tie.Need-add-out Inv-loop μ-loop
-add-out c = search needs
 
 slice-write-out : tie.Need-slice-write-out Inv-loop μ-loop
 slice-write-out c = let e = c .before .loop .inv in omega (arith, ap length (e .whole), length-append (decimal (c .before .loop .y)) (e .rest), digit-less (c .before .loop .y) (omega arith) (omega arith))
@@ -44,12 +32,6 @@ loop-less c = omega arith
 
 loop-again : tie.Need-loop-again Inv-loop μ-loop
 loop-again c = ending-more (omega arith) (omega arith) (c .before .loop .inv)
-
-cast-out-2 : tie.Need-cast-out-2 Inv-loop μ-loop
-cast-out-2 c = search needs
-
-add-out-2 : tie.Need-add-out-2 Inv-loop μ-loop
-add-out-2 c = search needs
 
 slice-write-out-2 : tie.Need-slice-write-out-2 Inv-loop μ-loop
 slice-write-out-2 c = let e = c .before .loop .inv in omega (arith, ap length (e .whole), length-append (decimal (c .before .loop .y)) (e .rest), ap length (decimal-small (c .before .loop .y) (omega arith)))
@@ -69,17 +51,17 @@ put-decimal-spec =
     (tie.spec
     Inv-loop
     μ-loop
-    digits-requires
-    add-end
+    (λ c κs. search needs)
+    (λ c. search needs)
     loop-holds
     sub-i
-    cast-out
-    add-out
+    (λ c. search needs)
+    (λ c. search needs)
     slice-write-out
     loop-less
     loop-again
-    cast-out-2
-    add-out-2
+    (λ c. search needs)
+    (λ c. search needs)
     slice-write-out-2
     same-length
     returns)

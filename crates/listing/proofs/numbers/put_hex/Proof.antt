@@ -22,47 +22,11 @@ abbrev μ-loop : tie.MeasureT-loop
 loop-holds : tie.Need-loop-holds Inv-loop μ-loop
 loop-holds c = let s = c .before .before .args in (omega arith, refl, paste-zero (s .out .now) (s .at) (hex (number (s .p .now))))
 
-sub-b : tie.Need-sub-b Inv-loop μ-loop
-sub-b c = search needs
-
-sub-b-2 : tie.Need-sub-b-2 Inv-loop μ-loop
-sub-b-2 c = search needs
-
-shared-slice-read-b : tie.Need-shared-slice-read-b Inv-loop μ-loop
-shared-slice-read-b c = search needs
-
 hex-digit-requires : tie.Need-hex-digit-requires Inv-loop μ-loop
 hex-digit-requires c κs = let b = c .shared-slice-known2 .given (setBytes - 1 - c .before .before .loop .i) in omega arith
 
-mul-out : tie.Need-mul-out Inv-loop μ-loop
-mul-out c = search needs
-
-add-out : tie.Need-add-out Inv-loop μ-loop
-add-out c = search needs
-
-slice-write-out : tie.Need-slice-write-out Inv-loop μ-loop
-slice-write-out c = search needs
-
-hex-digit-requires-2 : tie.Need-hex-digit-requires-2 Inv-loop μ-loop
-hex-digit-requires-2 c κs = search needs
-
-mul-out-2 : tie.Need-mul-out-2 Inv-loop μ-loop
-mul-out-2 c = search needs
-
-add-out-2 : tie.Need-add-out-2 Inv-loop μ-loop
-add-out-2 c = search needs
-
-add-out-3 : tie.Need-add-out-3 Inv-loop μ-loop
-add-out-3 c = search needs
-
 slice-write-out-2 : tie.Need-slice-write-out-2 Inv-loop μ-loop
 slice-write-out-2 c = simp length-set (omega arith)
-
-add-i : tie.Need-add-i Inv-loop μ-loop
-add-i c = search needs
-
-loop-less : tie.Need-loop-less Inv-loop μ-loop
-loop-less c = search needs
 
 loop-again : tie.Need-loop-again Inv-loop μ-loop
 loop-again c =
@@ -77,15 +41,6 @@ loop-again c =
           (c .before .hex-digit .ensures ∙ hex-high (s .p .now) bytes (l .i) (omega arith)) (c .hex-digit2 .ensures ∙ hex-low (s .p .now) bytes (l .i) (omega arith))
           (omega arith) (omega (arith, hex-length x)) ∙ ap (paste (s .out .now) (s .at) (hex x)) (sym next),
     )
-
-mul-result : tie.Need-mul-result Inv-loop μ-loop
-mul-result c = search needs
-
-add-result : tie.Need-add-result Inv-loop μ-loop
-add-result c = search needs
-
-same-length : tie.Need-same-length Inv-loop μ-loop
-same-length c = search needs
 
 returns : tie.Need-returns Inv-loop μ-loop
 returns c =
@@ -102,22 +57,22 @@ put-hex-spec =
     Inv-loop
     μ-loop
     loop-holds
-    sub-b
-    sub-b-2
-    shared-slice-read-b
+    (λ c. search needs)
+    (λ c. search needs)
+    (λ c. search needs)
     hex-digit-requires
-    mul-out
-    add-out
-    slice-write-out
-    hex-digit-requires-2
-    mul-out-2
-    add-out-2
-    add-out-3
+    (λ c. search needs)
+    (λ c. search needs)
+    (λ c. search needs)
+    (λ c κs. search needs)
+    (λ c. search needs)
+    (λ c. search needs)
+    (λ c. search needs)
     slice-write-out-2
-    add-i
-    loop-less
+    (λ c. search needs)
+    (λ c. search needs)
     loop-again
-    mul-result
-    add-result
-    same-length
+    (λ c. search needs)
+    (λ c. search needs)
+    (λ c. search needs)
     returns)

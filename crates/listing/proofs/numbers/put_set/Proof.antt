@@ -6,12 +6,6 @@ use borrow.Author.Needs.{needs}
 use Rattle.listing.proofs.numbers.put_set.Statement.{statement}
 use Rattle.listing.proofs.numbers.put_set.Tie as tie
 
-slice-write-out : tie.Need-slice-write-out
-slice-write-out c = search needs
-
-add-put-hex : tie.Need-add-put-hex
-add-put-hex c = search needs
-
 put-hex-requires : tie.Need-put-hex-requires
 put-hex-requires c κs = simp length-set (search needs)
 
@@ -25,8 +19,8 @@ pub put-set-spec : {M : Type 1} → statement M
 put-set-spec =
     tie.close
     (tie.spec
-    slice-write-out
-    add-put-hex
+    (λ c. search needs)
+    (λ c. search needs)
     put-hex-requires
     same-length
     returns)

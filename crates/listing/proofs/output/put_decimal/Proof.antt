@@ -6,23 +6,11 @@ use Rattle.listing.specs.OutputLaws.{wrote-as, put-digits, digits-long}
 use Rattle.listing.proofs.output.put_decimal.Statement.{statement}
 use Rattle.listing.proofs.output.put_decimal.Tie as tie
 
-slice-aggregate-put-decimal : tie.Need-slice-aggregate-put-decimal
-slice-aggregate-put-decimal c = search needs
-
 put-decimal-requires : tie.Need-put-decimal-requires
 put-decimal-requires c κs = omega (arith, decimal-short 9 (c .before .before .args .x) (omega arith))
 
-array-share-prefix-digits : tie.Need-array-share-prefix-digits
-array-share-prefix-digits c = search needs
-
 slice-aggregate-put-bytes : tie.Need-slice-aggregate-put-bytes
 slice-aggregate-put-bytes c = digits-long (c .before .before .put-decimal .ensures)
-
-put-bytes-requires : tie.Need-put-bytes-requires
-put-bytes-requires c κs = search needs
-
-same-length : tie.Need-same-length
-same-length c = search needs
 
 returns : tie.Need-returns
 returns c = wrote-as (put-digits (c .before .before .before .before .before .before .put-decimal .ensures)) (c .before .before .put-bytes .ensures)
@@ -31,10 +19,10 @@ pub put-decimal-spec : {M : Type 1} → statement M
 put-decimal-spec =
     tie.close
     (tie.spec
-    slice-aggregate-put-decimal
+    (λ c. search needs)
     put-decimal-requires
-    array-share-prefix-digits
+    (λ c. search needs)
     slice-aggregate-put-bytes
-    put-bytes-requires
-    same-length
+    (λ c κs. search needs)
+    (λ c. search needs)
     returns)

@@ -20,43 +20,10 @@ abbrev μ-loop : tie.MeasureT-loop
 loop-holds : tie.Need-loop-holds Inv-loop μ-loop
 loop-holds c = (omega arith, wrote-as (sym (lines-none _)) (wrote-none _ _))
 
-mul-from : tie.Need-mul-from Inv-loop μ-loop
-mul-from c = search needs
-
-cast-put-line : tie.Need-cast-put-line Inv-loop μ-loop
-cast-put-line c = search needs
-
-add-put-line : tie.Need-add-put-line Inv-loop μ-loop
-add-put-line c = search needs
-
-sub-put-line : tie.Need-sub-put-line Inv-loop μ-loop
-sub-put-line c = search needs
-
-part-put-line-start : tie.Need-part-put-line-start Inv-loop μ-loop
-part-put-line-start c = search needs
-
-part-put-line-end : tie.Need-part-put-line-end Inv-loop μ-loop
-part-put-line-end c = search needs
-
-put-line-requires : tie.Need-put-line-requires Inv-loop μ-loop
-put-line-requires c κs = search needs
-
-add-k : tie.Need-add-k Inv-loop μ-loop
-add-k c = search needs
-
-loop-less : tie.Need-loop-less Inv-loop μ-loop
-loop-less c = search needs
-
 loop-again : tie.Need-loop-again Inv-loop μ-loop
 loop-again c =
     let l = c .before .before .before .before .before .before .loop in
     (omega arith, wrote-as (lines-next (l .k) (c .before .before .before .before .before .before .before .before .before .args .sets .now)) (wrote-then (l .inv .1) (c .before .before .put-line .ensures)))
-
-slice-aggregate-put-total : tie.Need-slice-aggregate-put-total Inv-loop μ-loop
-slice-aggregate-put-total c = search needs
-
-put-total-requires : tie.Need-put-total-requires Inv-loop μ-loop
-put-total-requires c κs = search needs
 
 same-length : tie.Need-same-length Inv-loop μ-loop
 same-length c = wrote-length (wrote-then (c .before .before .before .before .before .before .loop .inv .1) (c .before .before .put-total .ensures))
@@ -74,17 +41,17 @@ put-live-spec =
     Inv-loop
     μ-loop
     loop-holds
-    mul-from
-    cast-put-line
-    add-put-line
-    sub-put-line
-    part-put-line-start
-    part-put-line-end
-    put-line-requires
-    add-k
-    loop-less
+    (λ c. search needs)
+    (λ c. search needs)
+    (λ c. search needs)
+    (λ c. search needs)
+    (λ c. search needs)
+    (λ c. search needs)
+    (λ c κs. search needs)
+    (λ c. search needs)
+    (λ c. search needs)
     loop-again
-    slice-aggregate-put-total
-    put-total-requires
+    (λ c. search needs)
+    (λ c κs. search needs)
     same-length
     returns)

@@ -2,24 +2,12 @@
 use mathlib.Core.Path.{sym, ap, _∙_}
 use mathlib.Core.Bool.{Bool, cond}
 use lib.ListN.{getD}
-use Rattle.dataflow_domains.specs.Sets.{mask, setAt}
+use Rattle.dataflow_domains.specs.Sets.{mask, storedSet}
 use Rattle.livevar_analysis.specs.Output.{afterBy}
 use native.Mathlib.Omega.{arith}
 use borrow.Author.Needs.{needs}
 use Rattle.livevar_analysis.proofs.output.after_of.Statement.{statement}
 use Rattle.livevar_analysis.proofs.output.after_of.Tie as tie
-
-ends-requires : tie.Need-ends-requires
-ends-requires c κs = search needs
-
-mul-u16-to-usize : tie.Need-mul-u16-to-usize
-mul-u16-to-usize c = search needs
-
-shared-slice-read-u16-to-usize : tie.Need-shared-slice-read-u16-to-usize
-shared-slice-read-u16-to-usize c = search needs
-
-u16-to-usize-requires : tie.Need-u16-to-usize-requires
-u16-to-usize-requires c κs = search needs
 
 load-requires : tie.Need-load-requires
 load-requires c κs = omega (arith, c .u16-to-usize .ensures .0, c .before .before .before .before .before .before .pre .0 .sets-fit (c .before .before .before .before .before .before .args .k) (c .before .before .before .before .before .before .pre .1))
@@ -28,23 +16,23 @@ returns : tie.Need-returns
 unfolding afterBy
 returns c =
     let s = c .before .before .before .before .before .before .before .args in
-    c .load .ensures ∙ ap (setAt (s .sets .now)) (c .before .u16-to-usize .ensures .0)
-    ∙ sym (ap (λ (b : Bool). cond b (setAt (s .sets .now) (getD (s .keys .now) (s .k) 0)) (mask (s .m))) (sym (c .before .before .before .before .ends .ensures) ∙ c .before .before .before .if1 .taken))
+    c .load .ensures ∙ ap (storedSet (s .sets .now)) (c .before .u16-to-usize .ensures .0)
+    ∙ sym (ap (λ (b : Bool). cond b (storedSet (s .sets .now) (getD (s .keys .now) (s .k) 0)) (mask (s .m))) (sym (c .before .before .before .before .ends .ensures) ∙ c .before .before .before .if1 .taken))
 
 returns-2 : tie.Need-returns-2
 unfolding afterBy
 returns-2 c =
     let s = c .before .before .before .before .args in
-    sym (ap (λ (b : Bool). cond b (setAt (s .sets .now) (getD (s .keys .now) (s .k) 0)) (mask (s .m))) (sym (c .before .ends .ensures) ∙ c .if1 .left))
+    sym (ap (λ (b : Bool). cond b (storedSet (s .sets .now) (getD (s .keys .now) (s .k) 0)) (mask (s .m))) (sym (c .before .ends .ensures) ∙ c .if1 .left))
 
 pub after-of-spec : {M : Type 1} → statement M
 after-of-spec =
     tie.close
     (tie.spec
-    ends-requires
-    mul-u16-to-usize
-    shared-slice-read-u16-to-usize
-    u16-to-usize-requires
+    (λ c κs. search needs)
+    (λ c. search needs)
+    (λ c. search needs)
+    (λ c κs. search needs)
     load-requires
     returns
     returns-2)

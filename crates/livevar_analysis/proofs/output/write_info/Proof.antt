@@ -27,41 +27,8 @@ Inv-loop rules keys n sets out₀ m₀ k₀ out m k = WrittenFrom rules keys set
 abbrev μ-loop : tie.MeasureT-loop
 μ-loop rules keys n sets out₀ m₀ k₀ out m k = k
 
-empty-requires : tie.Need-empty-requires Inv-loop μ-loop
-empty-requires c κs = search needs
-
 loop-holds : tie.Need-loop-holds Inv-loop μ-loop
 loop-holds c = let s = c .before .before .before .before .before .args in record { within = omega arith; long = refl; same = λ code ms e ruled known. written-none code ms (s .out .now) (s .n) _ e }
-
-sub-k : tie.Need-sub-k Inv-loop μ-loop
-sub-k c = search needs
-
-after-of-requires : tie.Need-after-of-requires Inv-loop μ-loop
-after-of-requires c κs = search needs
-
-apply-requires : tie.Need-apply-requires Inv-loop μ-loop
-apply-requires c κs = search needs
-
-mul-at : tie.Need-mul-at Inv-loop μ-loop
-mul-at c = search needs
-
-add-put-info : tie.Need-add-put-info Inv-loop μ-loop
-add-put-info c = search needs
-
-sub-put-info : tie.Need-sub-put-info Inv-loop μ-loop
-sub-put-info c = search needs
-
-part-put-info-start : tie.Need-part-put-info-start Inv-loop μ-loop
-part-put-info-start c = search needs
-
-part-put-info-end : tie.Need-part-put-info-end Inv-loop μ-loop
-part-put-info-end c = search needs
-
-put-info-requires : tie.Need-put-info-requires Inv-loop μ-loop
-put-info-requires c κs = search needs
-
-loop-less : tie.Need-loop-less Inv-loop μ-loop
-loop-less c = search needs
 
 loop-again : tie.Need-loop-again Inv-loop μ-loop
 loop-again c =
@@ -88,18 +55,18 @@ write-info-spec =
     (tie.spec
     Inv-loop
     μ-loop
-    empty-requires
+    (λ c κs. search needs)
     loop-holds
-    sub-k
-    after-of-requires
-    apply-requires
-    mul-at
-    add-put-info
-    sub-put-info
-    part-put-info-start
-    part-put-info-end
-    put-info-requires
-    loop-less
+    (λ c. search needs)
+    (λ c κs. search needs)
+    (λ c κs. search needs)
+    (λ c. search needs)
+    (λ c. search needs)
+    (λ c. search needs)
+    (λ c. search needs)
+    (λ c. search needs)
+    (λ c κs. search needs)
+    (λ c. search needs)
     loop-again
     same-length
     returns)

@@ -1,25 +1,13 @@
 -- `livevar_analysis::rules::call_rule` meets its contract. Assumes nothing.
-use Rattle.livevar_analysis.specs.DecodeLaws.{flagged, decoded-call}
+use Rattle.livevar_analysis.specs.DecodeLaws.{flag-asked, decoded-call}
 use borrow.Author.Needs.{needs}
 use Rattle.livevar_analysis.proofs.rules.call_rule.Statement.{statement}
 use Rattle.livevar_analysis.proofs.rules.call_rule.Tie as tie
 
-set-of-requires : tie.Need-set-of-requires
-set-of-requires c κs = search needs
-
-set-of-requires-2 : tie.Need-set-of-requires-2
-set-of-requires-2 c κs = search needs
-
 gone-requires : tie.Need-gone-requires
 gone-requires c κs f =
     let c4 = c .before .before .before .before in
-    c4 .pre .0 .abort (flagged _ (c4 .pre .1) f)
-
-union-requires : tie.Need-union-requires
-union-requires c κs = search needs
-
-without-requires : tie.Need-without-requires
-without-requires c κs = search needs
+    c4 .pre .0 .abort (flag-asked _ (c4 .pre .1) f)
 
 returns : tie.Need-returns
 returns c m = decoded-call _ _ _ m (c .before .before .before .before .before .before .before .pre .1) _ _ _ (c .before .before .before .before .set-of .ensures) (c .before .before .before .set-of2 .ensures) (c .before .before .gone .ensures) (c .before .union .ensures) (c .without .ensures)
@@ -28,9 +16,9 @@ pub call-rule-spec : {M : Type 1} → statement M
 call-rule-spec =
     tie.close
     (tie.spec
-    set-of-requires
-    set-of-requires-2
+    (λ c κs. search needs)
+    (λ c κs. search needs)
     gone-requires
-    union-requires
-    without-requires
+    (λ c κs. search needs)
+    (λ c κs. search needs)
     returns)

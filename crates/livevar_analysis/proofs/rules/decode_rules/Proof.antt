@@ -44,12 +44,6 @@ room c = record { fit = omega (arith, c .before .before .before .before .pre .2 
 put-rule-requires : tie.Need-put-rule-requires Inv-loop μ-loop
 put-rule-requires c κs = room (c .before .before .before)
 
-add-k : tie.Need-add-k Inv-loop μ-loop
-add-k c = search needs
-
-loop-less : tie.Need-loop-less Inv-loop μ-loop
-loop-less c = search needs
-
 loop-again : tie.Need-loop-again Inv-loop μ-loop
 loop-again c =
     let l = c .before .before .before .before .before .before .before .loop in
@@ -64,9 +58,6 @@ loop-again c =
       kept = put .kept .1 .0 ∙ l .inv .kept;
     }
 
-same-length : tie.Need-same-length Inv-loop μ-loop
-same-length c = search needs
-
 returns : tie.Need-returns Inv-loop μ-loop
 returns c = ruled-all _ _ _ (omega (arith, code-length (c .before .before .before .before .args .sheet .now))) (c .before .loop .inv .ruled)
 
@@ -80,8 +71,8 @@ decode-rules-spec =
     instruction-at-requires
     rule-of-requires
     put-rule-requires
-    add-k
-    loop-less
+    (λ c. search needs)
+    (λ c. search needs)
     loop-again
-    same-length
+    (λ c. search needs)
     returns)

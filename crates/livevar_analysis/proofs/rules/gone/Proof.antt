@@ -11,11 +11,8 @@ single-requires c κs = c .before .pre (c .if1 .taken)
 returns : tie.Need-returns
 returns c = c .single .ensures ∙ rw (eq-eqb _ 1 (c .before .if1 .taken))
 
-empty-requires : tie.Need-empty-requires
-empty-requires c κs = search needs
-
 returns-2 : tie.Need-returns-2
 returns-2 c = c .empty .ensures ∙ rw (ne-eqb _ 1 (c .before .if1 .left))
 
 pub gone-spec : {M : Type 1} → statement M
-gone-spec = tie.close (tie.spec single-requires returns empty-requires returns-2)
+gone-spec = tie.close (tie.spec single-requires returns (λ c κs. search needs) returns-2)

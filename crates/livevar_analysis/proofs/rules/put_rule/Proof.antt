@@ -4,30 +4,6 @@ use borrow.Author.Needs.{needs}
 use Rattle.livevar_analysis.proofs.rules.put_rule.Statement.{statement}
 use Rattle.livevar_analysis.proofs.rules.put_rule.Tie as tie
 
-flag-of-requires : tie.Need-flag-of-requires
-flag-of-requires c κs = search needs
-
-mul-at : tie.Need-mul-at
-mul-at c = search needs
-
-store-requires : tie.Need-store-requires
-store-requires c κs = search needs
-
-add-store : tie.Need-add-store
-add-store c = search needs
-
-store-requires-2 : tie.Need-store-requires-2
-store-requires-2 c κs = search needs
-
-add-store-2 : tie.Need-add-store-2
-add-store-2 c = search needs
-
-store-requires-3 : tie.Need-store-requires-3
-store-requires-3 c κs = search needs
-
-same-length : tie.Need-same-length
-same-length c = search needs
-
 returns : tie.Need-returns
 returns c =
     let a = c .before .before .before .before .before .before .before .before .before .before .before .before .before .before .before .before in
@@ -37,12 +13,12 @@ pub put-rule-spec : {M : Type 1} → statement M
 put-rule-spec =
     tie.close
     (tie.spec
-    flag-of-requires
-    mul-at
-    store-requires
-    add-store
-    store-requires-2
-    add-store-2
-    store-requires-3
-    same-length
+    (λ c κs. search needs)
+    (λ c. search needs)
+    (λ c κs. search needs)
+    (λ c. search needs)
+    (λ c κs. search needs)
+    (λ c. search needs)
+    (λ c κs. search needs)
+    (λ c. search needs)
     returns)

@@ -5,47 +5,14 @@ use Rattle.livevar_analysis.specs.DecodeLaws.{decoded-assign, decoded-lo
 use Rattle.livevar_analysis.proofs.rules.rule_of.Statement.{statement}
 use Rattle.livevar_analysis.proofs.rules.rule_of.Tie as tie
 
-array-read-single : tie.Need-array-read-single
-array-read-single c = search needs
-
 single-requires : tie.Need-single-requires
 single-requires c κs = c .before .before .before .pre .dsts .each 0 (c .before .before .before .pre .assign (c .match .keys1))
-
-set-of-requires : tie.Need-set-of-requires
-set-of-requires c κs = search needs
-
-call-rule-requires : tie.Need-call-rule-requires
-call-rule-requires c κs = search needs
-
-empty-requires : tie.Need-empty-requires
-empty-requires c κs = search needs
-
-set-of-requires-2 : tie.Need-set-of-requires-2
-set-of-requires-2 c κs = search needs
-
-array-read-single-2 : tie.Need-array-read-single-2
-array-read-single-2 c = search needs
 
 single-requires-2 : tie.Need-single-requires-2
 single-requires-2 c κs = c .before .before .before .pre .dsts .each 0 (c .before .before .before .pre .load (c .match .keys4))
 
-empty-requires-2 : tie.Need-empty-requires-2
-empty-requires-2 c κs = search needs
-
-no-rule-requires : tie.Need-no-rule-requires
-no-rule-requires c κs = search needs
-
-no-rule-requires-2 : tie.Need-no-rule-requires-2
-no-rule-requires-2 c κs = search needs
-
-no-rule-requires-3 : tie.Need-no-rule-requires-3
-no-rule-requires-3 c κs = search needs
-
 returns : tie.Need-returns
 returns c m = decoded-assign _ _ _ m (c .before .before .match .keys1) (c .before .single .ensures) (c .set-of .ensures)
-
-returns-2 : tie.Need-returns-2
-returns-2 c = search needs
 
 returns-3 : tie.Need-returns-3
 returns-3 c m = decoded-sources _ _ _ m (c .before .before .match .keys3) (c .before .empty .ensures) (c .set-of2 .ensures)
@@ -66,20 +33,20 @@ pub rule-of-spec : {M : Type 1} → statement M
 rule-of-spec =
     tie.close
     (tie.spec
-    array-read-single
+    (λ c. search needs)
     single-requires
-    set-of-requires
-    call-rule-requires
-    empty-requires
-    set-of-requires-2
-    array-read-single-2
+    (λ c κs. search needs)
+    (λ c κs. search needs)
+    (λ c κs. search needs)
+    (λ c κs. search needs)
+    (λ c. search needs)
     single-requires-2
-    empty-requires-2
-    no-rule-requires
-    no-rule-requires-2
-    no-rule-requires-3
+    (λ c κs. search needs)
+    (λ c κs. search needs)
+    (λ c κs. search needs)
+    (λ c κs. search needs)
     returns
-    returns-2
+    (λ c. search needs)
     returns-3
     returns-4
     returns-5

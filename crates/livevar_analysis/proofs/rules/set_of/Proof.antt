@@ -16,24 +16,12 @@ Inv-loop n list end set₀ i₀ set i = (i ≤ n) × (mask set ≡ setOf (take i
 abbrev μ-loop : tie.MeasureT-loop
 μ-loop n list end set₀ i₀ set i = n - i
 
-empty-requires : tie.Need-empty-requires Inv-loop μ-loop
-empty-requires c κs = search needs
-
 loop-holds : tie.Need-loop-holds Inv-loop μ-loop
 unfolding setOf
 loop-holds c = search needs
 
-array-read-insert : tie.Need-array-read-insert Inv-loop μ-loop
-array-read-insert c = search needs
-
 insert-requires : tie.Need-insert-requires Inv-loop μ-loop
 insert-requires c κs = c .before .before .before .pre .each _ (search needs)
-
-add-i : tie.Need-add-i Inv-loop μ-loop
-add-i c = search needs
-
-loop-less : tie.Need-loop-less Inv-loop μ-loop
-loop-less c = search needs
 
 loop-again : tie.Need-loop-again Inv-loop μ-loop
 loop-again c =
@@ -53,11 +41,11 @@ set-of-spec =
     (tie.spec
     Inv-loop
     μ-loop
-    empty-requires
+    (λ c κs. search needs)
     loop-holds
-    array-read-insert
+    (λ c. search needs)
     insert-requires
-    add-i
-    loop-less
+    (λ c. search needs)
+    (λ c. search needs)
     loop-again
     returns)

@@ -5,12 +5,9 @@ use borrow.Author.Needs.{needs}
 use Rattle.livevar_transform.proofs.instructions.destroy.Statement.{statement}
 use Rattle.livevar_transform.proofs.instructions.destroy.Tie as tie
 
-array-write-srcs : tie.Need-array-write-srcs
-array-write-srcs c = search needs
-
 returns : tie.Need-returns
 unfolding padded
 returns c = refl
 
 pub destroy-spec : {M : Type 1} → statement M
-destroy-spec = tie.close (tie.spec array-write-srcs returns)
+destroy-spec = tie.close (tie.spec (λ c. search needs) returns)

@@ -6,17 +6,8 @@ use borrow.Author.Needs.{needs}
 use Rattle.livevar_transform.proofs.plan.after_at.Statement.{statement}
 use Rattle.livevar_transform.proofs.plan.after_at.Tie as tie
 
-mul-set-in : tie.Need-mul-set-in
-mul-set-in c = search needs
-
-add-set-in : tie.Need-add-set-in
-add-set-in c = search needs
-
-set-in-requires : tie.Need-set-in-requires
-set-in-requires c κs = search needs
-
 returns : tie.Need-returns
 returns c = c .set-in .ensures ∙ after-part (c .before .before .args .info .now) (pairBytes * c .before .before .args .k)
 
 pub after-at-spec : {M : Type 1} → statement M
-after-at-spec = tie.close (tie.spec mul-set-in add-set-in set-in-requires returns)
+after-at-spec = tie.close (tie.spec (λ c. search needs) (λ c. search needs) (λ c κs. search needs) returns)

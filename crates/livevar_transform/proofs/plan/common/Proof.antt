@@ -4,14 +4,8 @@ use borrow.Author.Needs.{needs}
 use Rattle.livevar_transform.proofs.plan.common.Statement.{statement}
 use Rattle.livevar_transform.proofs.plan.common.Tie as tie
 
-without-requires : tie.Need-without-requires
-without-requires c κs = search needs
-
-without-requires-2 : tie.Need-without-requires-2
-without-requires-2 c κs = search needs
-
 returns : tie.Need-returns
 returns c = common-by _ _ _ _ (c .before .without .ensures) (c .without2 .ensures)
 
 pub common-spec : {M : Type 1} → statement M
-common-spec = tie.close (tie.spec without-requires without-requires-2 returns)
+common-spec = tie.close (tie.spec (λ c κs. search needs) (λ c κs. search needs) returns)

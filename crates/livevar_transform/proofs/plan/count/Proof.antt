@@ -32,12 +32,6 @@ past-both-requires c κs =
     let p = c .before .before .before .before .before .before in
     (numbers-small _ _ _ _ (p .pre .1) (omega (arith, p .pre .0 .few)) (c .before .before .before .loop .inv .3), omega (arith, p .pre .0 .edges))
 
-add-k : tie.Need-add-k Inv-loop μ-loop
-add-k c = search needs
-
-loop-less : tie.Need-loop-less Inv-loop μ-loop
-loop-less c = search needs
-
 loop-again : tie.Need-loop-again Inv-loop μ-loop
 loop-again c =
     let p4 = c .before .before .before .before in
@@ -57,7 +51,7 @@ count-spec =
     shared-slice-read-if1
     add-kept
     past-both-requires
-    add-k
-    loop-less
+    (λ c. search needs)
+    (λ c. search needs)
     loop-again
     returns)

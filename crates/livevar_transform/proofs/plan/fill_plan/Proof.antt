@@ -36,12 +36,6 @@ lose-both-requires c κs =
     let p10 = c .before .before .before .before .before .before .before .before .before .before in
     let e = edges-room (p10 .pre .0) (λ i. c .before .before .before .before .before .before .before .before .before .shared-slice-known .given i .fits) (p4 .loop .k) _ (omega arith) (c .before .before .instruction-at .ensures) in (e .0, e .1, omega (arith, p10 .pre .1 .edges, p4 .loop .inv .2))
 
-add-k : tie.Need-add-k Inv-loop μ-loop
-add-k c = search needs
-
-loop-less : tie.Need-loop-less Inv-loop μ-loop
-loop-less c = search needs
-
 loop-again : tie.Need-loop-again Inv-loop μ-loop
 loop-again c =
     let p4 = c .before .before .before .before in
@@ -72,8 +66,8 @@ fill-plan-spec =
     fate-of-requires
     slice-write-fates
     lose-both-requires
-    add-k
-    loop-less
+    (λ c. search needs)
+    (λ c. search needs)
     loop-again
     same-length
     same-length-2

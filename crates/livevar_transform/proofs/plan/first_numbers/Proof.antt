@@ -24,34 +24,10 @@ loop-holds c = (search needs, highest-start labelOf _, highest-start attrOf _)
 instruction-at-requires : tie.Need-instruction-at-requires Inv-loop μ-loop
 instruction-at-requires c κs = record-inside _ (c .before .before .before .pre .0) _ (omega (arith, c .before .before .before .pre .1))
 
-label-over-requires : tie.Need-label-over-requires Inv-loop μ-loop
-label-over-requires c κs = search needs
-
-attr-over-requires : tie.Need-attr-over-requires Inv-loop μ-loop
-attr-over-requires c κs = search needs
-
-add-k : tie.Need-add-k Inv-loop μ-loop
-add-k c = search needs
-
-loop-less : tie.Need-loop-less Inv-loop μ-loop
-loop-less c = search needs
-
 loop-again : tie.Need-loop-again Inv-loop μ-loop
 loop-again c =
     let at4 = c .before .before .before .before in
     let p = c .before .before .before .before .before .before .pre in let r = c .before .before .instruction-at .ensures in (search needs, highest-turn labelOf _ _ _ _ _ _ (p .0) (omega (arith, p .1)) r (c .before .label-over .ensures) (at4 .loop .inv .1), highest-turn attrOf _ _ _ _ _ _ (p .0) (omega (arith, p .1)) r (attr-raised _ _ (c .before .before .instruction-at .result) (c .attr-over .ensures)) (at4 .loop .inv .2))
-
-u16-to-u32-requires : tie.Need-u16-to-u32-requires Inv-loop μ-loop
-u16-to-u32-requires c κs = search needs
-
-add-t9 : tie.Need-add-t9 Inv-loop μ-loop
-add-t9 c = search needs
-
-u16-to-u32-requires-2 : tie.Need-u16-to-u32-requires-2 Inv-loop μ-loop
-u16-to-u32-requires-2 c κs = search needs
-
-add-t11 : tie.Need-add-t11 Inv-loop μ-loop
-add-t11 c = search needs
 
 returns : tie.Need-returns Inv-loop μ-loop
 returns c =
@@ -66,13 +42,13 @@ first-numbers-spec =
     μ-loop
     loop-holds
     instruction-at-requires
-    label-over-requires
-    attr-over-requires
-    add-k
-    loop-less
+    (λ c κs. search needs)
+    (λ c κs. search needs)
+    (λ c. search needs)
+    (λ c. search needs)
     loop-again
-    u16-to-u32-requires
-    add-t9
-    u16-to-u32-requires-2
-    add-t11
+    (λ c κs. search needs)
+    (λ c. search needs)
+    (λ c κs. search needs)
+    (λ c. search needs)
     returns)

@@ -7,9 +7,6 @@ use Rattle.livevar_transform.proofs.plan.is_dead.Tie as tie
 after-at-requires : tie.Need-after-at-requires
 after-at-requires c κs = c .before .before .before .pre .0
 
-array-read-has : tie.Need-array-read-has
-array-read-has c = search needs
-
 has-requires : tie.Need-has-requires
 has-requires c κs = dst-low _ (c .before .before .before .before .pre .1) (c .before .before .match .keys1)
 
@@ -20,4 +17,4 @@ returns-2 : tie.Need-returns-2
 returns-2 c = dead-not _ _ (λ e. c .match .rest .1 (inl e)) (λ e. c .match .rest .1 (inr e))
 
 pub is-dead-spec : {M : Type 1} → statement M
-is-dead-spec = tie.close (tie.spec after-at-requires array-read-has has-requires returns returns-2)
+is-dead-spec = tie.close (tie.spec after-at-requires (λ c. search needs) has-requires returns returns-2)

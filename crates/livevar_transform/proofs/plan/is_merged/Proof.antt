@@ -14,14 +14,8 @@ returns-2 c =
     let p = c .before .before .before .before .before .before in
     merged-single (p .pre .0) _ _ (p .pre .1) (p .pre .2) (c .if2 .taken)
 
-add-if3 : tie.Need-add-if3
-add-if3 c = search needs
-
 returns-3 : tie.Need-returns-3
 returns-3 c = merged-last (c .before .before .before .before .before .before .before .pre .0) _ (c .if3 .taken)
-
-add-instruction-at : tie.Need-add-instruction-at
-add-instruction-at c = search needs
 
 instruction-at-requires : tie.Need-instruction-at-requires
 instruction-at-requires c κs = inside (c .before .before .before .before .before .before .before .pre .0) _ (c .if3 .left)
@@ -29,25 +23,13 @@ instruction-at-requires c κs = inside (c .before .before .before .before .befor
 returns-4 : tie.Need-returns-4
 returns-4 c = merged-assign (c .before .before .before .before .before .before .before .before .before .before .pre .0) _ _ (c .before .before .before .if3 .left) (c .before .before .instruction-at .ensures) (c .if4 .taken)
 
-array-read-if5 : tie.Need-array-read-if5
-array-read-if5 c = search needs
-
-array-read-if5-2 : tie.Need-array-read-if5-2
-array-read-if5-2 c = search needs
-
 returns-5 : tie.Need-returns-5
 returns-5 c =
     let p = c .before .before .before .before .before .before .before .before .before .before .before .before .before in
     merged-from (p .pre .0) _ _ _ (c .before .before .before .before .before .before .if3 .left) (p .pre .2) (c .before .before .before .before .before .instruction-at .ensures) (c .if5 .taken)
 
-add-after-at : tie.Need-add-after-at
-add-after-at c = search needs
-
 after-at-requires : tie.Need-after-at-requires
 after-at-requires c κs = room-at (c .before .before .before .before .before .before .before .before .before .before .before .before .before .pre .0) _ (c .before .before .before .before .before .before .if3 .left)
-
-array-read-has : tie.Need-array-read-has
-array-read-has c = search needs
 
 has-requires : tie.Need-has-requires
 has-requires c κs =
@@ -63,16 +45,16 @@ is-merged-spec =
     (tie.spec
     returns
     returns-2
-    add-if3
+    (λ c. search needs)
     returns-3
-    add-instruction-at
+    (λ c. search needs)
     instruction-at-requires
     returns-4
-    array-read-if5
-    array-read-if5-2
+    (λ c. search needs)
+    (λ c. search needs)
     returns-5
-    add-after-at
+    (λ c. search needs)
     after-at-requires
-    array-read-has
+    (λ c. search needs)
     has-requires
     returns-6)

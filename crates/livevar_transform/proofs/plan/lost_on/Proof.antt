@@ -10,35 +10,17 @@ use borrow.Author.Needs.{needs}
 use Rattle.livevar_transform.proofs.plan.lost_on.Statement.{statement}
 use Rattle.livevar_transform.proofs.plan.lost_on.Tie as tie
 
-empty-requires : tie.Need-empty-requires
-empty-requires c κs = search needs
-
 returns : tie.Need-returns
 returns c = lost-none _ _ _ _ _ _ (c .before .if1 .taken) (c .empty .ensures)
 
 after-at-requires : tie.Need-after-at-requires
 after-at-requires c κs = c .before .before .before .before .pre .here
 
-mul-u16-to-usize : tie.Need-mul-u16-to-usize
-mul-u16-to-usize c = search needs
-
 shared-slice-read-u16-to-usize : tie.Need-shared-slice-read-u16-to-usize
 shared-slice-read-u16-to-usize c = c .before .before .before .before .before .before .pre .slot
 
-u16-to-usize-requires : tie.Need-u16-to-usize-requires
-u16-to-usize-requires c κs = search needs
-
-mul-set-in : tie.Need-mul-set-in
-mul-set-in c = search needs
-
 set-in-requires : tie.Need-set-in-requires
 set-in-requires c κs = omega (arith, c .u16-to-usize .ensures .0, c .before .before .before .before .before .before .before .pre .there (c .before .before .before .if1 .left))
-
-common-requires : tie.Need-common-requires
-common-requires c κs = search needs
-
-without-requires : tie.Need-without-requires
-without-requires c κs = search needs
 
 returns-2 : tie.Need-returns-2
 returns-2 c =
@@ -49,14 +31,14 @@ pub lost-on-spec : {M : Type 1} → statement M
 lost-on-spec =
     tie.close
     (tie.spec
-    empty-requires
+    (λ c κs. search needs)
     returns
     after-at-requires
-    mul-u16-to-usize
+    (λ c. search needs)
     shared-slice-read-u16-to-usize
-    u16-to-usize-requires
-    mul-set-in
+    (λ c κs. search needs)
+    (λ c. search needs)
     set-in-requires
-    common-requires
-    without-requires
+    (λ c κs. search needs)
+    (λ c κs. search needs)
     returns-2)

@@ -4,17 +4,8 @@ use borrow.Author.Needs.{needs}
 use Rattle.livevar_transform.proofs.plan.past_both.Statement.{statement}
 use Rattle.livevar_transform.proofs.plan.past_both.Tie as tie
 
-mul-load : tie.Need-mul-load
-mul-load c = search needs
-
 load-requires : tie.Need-load-requires
 load-requires c κs = omega (arith, c .before .pre .1)
-
-mul-load-2 : tie.Need-mul-load-2
-mul-load-2 c = search needs
-
-add-load : tie.Need-add-load
-add-load c = search needs
 
 load-requires-2 : tie.Need-load-requires-2
 load-requires-2 c κs = omega (arith, c .before .before .pre .1)
@@ -32,10 +23,10 @@ pub past-both-spec : {M : Type 1} → statement M
 past-both-spec =
     tie.close
     (tie.spec
-    mul-load
+    (λ c. search needs)
     load-requires
-    mul-load-2
-    add-load
+    (λ c. search needs)
+    (λ c. search needs)
     load-requires-2
     past-requires
     past-requires-2

@@ -23,29 +23,14 @@ abbrev μ-loop : tie.MeasureT-loop
 u16-at-requires : tie.Need-u16-at-requires Inv-loop μ-loop
 u16-at-requires c κs = omega (arith, heading-there (c .before .before .args .s .now) (c .before .before .pre))
 
-u16-to-u32-requires : tie.Need-u16-to-u32-requires Inv-loop μ-loop
-u16-to-u32-requires c κs = search needs
-
 put-heading-requires : tie.Need-put-heading-requires Inv-loop μ-loop
 put-heading-requires c κs = heading-there _ (c .before .before .before .before .before .pre)
 
 loop-holds : tie.Need-loop-holds Inv-loop μ-loop
 loop-holds c = (omega arith, count-of (c .before .before .before .before .before .before .before .before .args .s .now) _ (c .before .before .before .before .u16-to-u32 .ensures .0 ∙ c .before .before .before .before .before .u16-at .ensures), wrote-as (lines-none _) (wrote-none _ _))
 
-cast-instruction-at : tie.Need-cast-instruction-at Inv-loop μ-loop
-cast-instruction-at c = search needs
-
 instruction-at-requires : tie.Need-instruction-at-requires Inv-loop μ-loop
 instruction-at-requires c κs = let h = accepted-has (c .before .before .before .before .before .before .before .before .before .before .args .s .now) (c .before .before .before .before .before .before .before .before .before .before .pre) (c .before .loop .k) (omega arith) in (h .ends, h .few)
-
-put-code-line-requires : tie.Need-put-code-line-requires Inv-loop μ-loop
-put-code-line-requires c κs = search needs
-
-add-k : tie.Need-add-k Inv-loop μ-loop
-add-k c = search needs
-
-loop-less : tie.Need-loop-less Inv-loop μ-loop
-loop-less c = search needs
 
 loop-again : tie.Need-loop-again Inv-loop μ-loop
 loop-again c =
@@ -65,14 +50,14 @@ put-code-spec =
     Inv-loop
     μ-loop
     u16-at-requires
-    u16-to-u32-requires
+    (λ c κs. search needs)
     put-heading-requires
     loop-holds
-    cast-instruction-at
+    (λ c. search needs)
     instruction-at-requires
-    put-code-line-requires
-    add-k
-    loop-less
+    (λ c κs. search needs)
+    (λ c. search needs)
+    (λ c. search needs)
     loop-again
     same-length
     returns)

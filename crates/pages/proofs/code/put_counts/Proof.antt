@@ -8,51 +8,6 @@ use Rattle.pages.specs.CodeLaws.{counts-is}
 use Rattle.pages.proofs.code.put_counts.Statement.{statement}
 use Rattle.pages.proofs.code.put_counts.Tie as tie
 
-slice-aggregate-put-number : tie.Need-slice-aggregate-put-number
-slice-aggregate-put-number c = search needs
-
-u16-at-requires : tie.Need-u16-at-requires
-u16-at-requires c κs = search needs
-
-u16-to-u32-requires : tie.Need-u16-to-u32-requires
-u16-to-u32-requires c κs = search needs
-
-put-number-requires : tie.Need-put-number-requires
-put-number-requires c κs = search needs
-
-slice-aggregate-put-number-2 : tie.Need-slice-aggregate-put-number-2
-slice-aggregate-put-number-2 c = search needs
-
-u16-at-requires-2 : tie.Need-u16-at-requires-2
-u16-at-requires-2 c κs = search needs
-
-u16-to-u32-requires-2 : tie.Need-u16-to-u32-requires-2
-u16-to-u32-requires-2 c κs = search needs
-
-put-number-requires-2 : tie.Need-put-number-requires-2
-put-number-requires-2 c κs = search needs
-
-slice-aggregate-put-number-3 : tie.Need-slice-aggregate-put-number-3
-slice-aggregate-put-number-3 c = search needs
-
-u16-at-requires-3 : tie.Need-u16-at-requires-3
-u16-at-requires-3 c κs = search needs
-
-u16-to-u32-requires-3 : tie.Need-u16-to-u32-requires-3
-u16-to-u32-requires-3 c κs = search needs
-
-put-number-requires-3 : tie.Need-put-number-requires-3
-put-number-requires-3 c κs = search needs
-
-slice-aggregate-put-bytes : tie.Need-slice-aggregate-put-bytes
-slice-aggregate-put-bytes c = search needs
-
-put-bytes-requires : tie.Need-put-bytes-requires
-put-bytes-requires c κs = search needs
-
-same-length : tie.Need-same-length
-same-length c = search needs
-
 returns : tie.Need-returns
 returns c = wrote-as (counts-is _) (wrote-then (wrote-then (wrote-then (wrote-by (λ (x : ℕ). said (ascii "locals ") x) (c .before .before .before .before .before .before .before .before .before .before .before .before .before .before .before .before .before .before .before .before .before .before .before .u16-to-u32 .ensures .0 ∙ c .before .before .before .before .before .before .before .before .before .before .before .before .before .before .before .before .before .before .before .before .before .before .before .before .u16-at .ensures) (c .before .before .before .before .before .before .before .before .before .before .before .before .before .before .before .before .before .before .before .before .before .put-number .ensures)) (wrote-by (λ (x : ℕ). said (ascii " user ") x) (c .before .before .before .before .before .before .before .before .before .before .before .before .before .before .before .before .u16-to-u322 .ensures .0 ∙ c .before .before .before .before .before .before .before .before .before .before .before .before .before .before .before .before .before .u16-at2 .ensures) (c .before .before .before .before .before .before .before .before .before .before .before .before .before .before .put-number2 .ensures))) (wrote-by (λ (x : ℕ). said (ascii " parameters ") x) (c .before .before .before .before .before .before .before .before .before .u16-to-u323 .ensures .0 ∙ c .before .before .before .before .before .before .before .before .before .before .u16-at3 .ensures) (c .before .before .before .before .before .before .before .put-number3 .ensures))) (c .before .before .put-bytes .ensures))
 
@@ -60,19 +15,19 @@ pub put-counts-spec : {M : Type 1} → statement M
 put-counts-spec =
     tie.close
     (tie.spec
-    slice-aggregate-put-number
-    u16-at-requires
-    u16-to-u32-requires
-    put-number-requires
-    slice-aggregate-put-number-2
-    u16-at-requires-2
-    u16-to-u32-requires-2
-    put-number-requires-2
-    slice-aggregate-put-number-3
-    u16-at-requires-3
-    u16-to-u32-requires-3
-    put-number-requires-3
-    slice-aggregate-put-bytes
-    put-bytes-requires
-    same-length
+    (λ c. search needs)
+    (λ c κs. search needs)
+    (λ c κs. search needs)
+    (λ c κs. search needs)
+    (λ c. search needs)
+    (λ c κs. search needs)
+    (λ c κs. search needs)
+    (λ c κs. search needs)
+    (λ c. search needs)
+    (λ c κs. search needs)
+    (λ c κs. search needs)
+    (λ c κs. search needs)
+    (λ c. search needs)
+    (λ c κs. search needs)
+    (λ c. search needs)
     returns)

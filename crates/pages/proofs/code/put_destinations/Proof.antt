@@ -10,37 +10,10 @@ use Rattle.pages.specs.CodeLaws.{destinations-none, destinations-some}
 use Rattle.pages.proofs.code.put_destinations.Statement.{statement}
 use Rattle.pages.proofs.code.put_destinations.Tie as tie
 
-u8-to-usize-requires : tie.Need-u8-to-usize-requires
-u8-to-usize-requires c κs = search needs
-
-slice-aggregate-put-listed : tie.Need-slice-aggregate-put-listed
-slice-aggregate-put-listed c = search needs
-
-slice-aggregate-put-listed-2 : tie.Need-slice-aggregate-put-listed-2
-slice-aggregate-put-listed-2 c = search needs
-
-slice-aggregate-put-listed-3 : tie.Need-slice-aggregate-put-listed-3
-slice-aggregate-put-listed-3 c = search needs
-
-put-listed-requires : tie.Need-put-listed-requires
-put-listed-requires c κs = search needs
-
-same-length : tie.Need-same-length
-same-length c = search needs
-
 returns : tie.Need-returns
 returns c =
     let c8 = c .before .before .before .before .before .before .before .before in
     wrote-as (destinations-none _ (sym (c8 .u8-to-usize .ensures .0) ∙ c .if1 .taken)) (wrote-by (λ (x : ℕ). listed (ascii "t") (ascii " ") (take x (c .before .before .before .before .before .before .before .before .before .before .before .args .r .dsts))) (c8 .u8-to-usize .ensures .0) (c .before .before .before .put-listed .ensures))
-
-slice-aggregate-put-bytes : tie.Need-slice-aggregate-put-bytes
-slice-aggregate-put-bytes c = search needs
-
-put-bytes-requires : tie.Need-put-bytes-requires
-put-bytes-requires c κs = search needs
-
-same-length-2 : tie.Need-same-length-2
-same-length-2 c = search needs
 
 returns-2 : tie.Need-returns-2
 returns-2 c =
@@ -51,14 +24,14 @@ pub put-destinations-spec : {M : Type 1} → statement M
 put-destinations-spec =
     tie.close
     (tie.spec
-    u8-to-usize-requires
-    slice-aggregate-put-listed
-    slice-aggregate-put-listed-2
-    slice-aggregate-put-listed-3
-    put-listed-requires
-    same-length
+    (λ c κs. search needs)
+    (λ c. search needs)
+    (λ c. search needs)
+    (λ c. search needs)
+    (λ c κs. search needs)
+    (λ c. search needs)
     returns
-    slice-aggregate-put-bytes
-    put-bytes-requires
-    same-length-2
+    (λ c. search needs)
+    (λ c κs. search needs)
+    (λ c. search needs)
     returns-2)

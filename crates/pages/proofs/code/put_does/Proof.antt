@@ -5,21 +5,6 @@ use Rattle.pages.specs.CodeLaws.{does-is}
 use Rattle.pages.proofs.code.put_does.Statement.{statement}
 use Rattle.pages.proofs.code.put_does.Tie as tie
 
-put-destinations-requires : tie.Need-put-destinations-requires
-put-destinations-requires c κs = search needs
-
-put-verb-requires : tie.Need-put-verb-requires
-put-verb-requires c κs = search needs
-
-put-name-requires : tie.Need-put-name-requires
-put-name-requires c κs = search needs
-
-put-labels-requires : tie.Need-put-labels-requires
-put-labels-requires c κs = search needs
-
-same-length : tie.Need-same-length
-same-length c = search needs
-
 returns : tie.Need-returns
 returns c = wrote-as (does-is _) (wrote-then (wrote-then (wrote-then (c .before .before .before .before .before .before .before .before .before .before .before .before .before .before .put-destinations .ensures) (c .before .before .before .before .before .before .before .before .before .before .put-verb .ensures)) (c .before .before .before .before .before .before .put-name .ensures)) (c .before .before .put-labels .ensures))
 
@@ -27,9 +12,9 @@ pub put-does-spec : {M : Type 1} → statement M
 put-does-spec =
     tie.close
     (tie.spec
-    put-destinations-requires
-    put-verb-requires
-    put-name-requires
-    put-labels-requires
-    same-length
+    (λ c κs. search needs)
+    (λ c κs. search needs)
+    (λ c κs. search needs)
+    (λ c κs. search needs)
+    (λ c. search needs)
     returns)

@@ -7,18 +7,6 @@ use Rattle.pages.specs.CodeLaws.{local-in, local-out}
 use Rattle.pages.proofs.code.put_local.Statement.{statement}
 use Rattle.pages.proofs.code.put_local.Tie as tie
 
-slice-aggregate-put-number : tie.Need-slice-aggregate-put-number
-slice-aggregate-put-number c = search needs
-
-u8-to-u32-requires : tie.Need-u8-to-u32-requires
-u8-to-u32-requires c κs = search needs
-
-put-number-requires : tie.Need-put-number-requires
-put-number-requires c κs = search needs
-
-same-length : tie.Need-same-length
-same-length c = search needs
-
 returns : tie.Need-returns
 returns c = wrote-as (local-in _ _ (c .before .before .before .before .before .before .if1 .taken)) (wrote-by (λ (x : ℕ). said (ascii " t") x) (c .before .before .before .before .u8-to-u32 .ensures .0) (c .before .before .put-number .ensures))
 
@@ -29,9 +17,9 @@ pub put-local-spec : {M : Type 1} → statement M
 put-local-spec =
     tie.close
     (tie.spec
-    slice-aggregate-put-number
-    u8-to-u32-requires
-    put-number-requires
-    same-length
+    (λ c. search needs)
+    (λ c κs. search needs)
+    (λ c κs. search needs)
+    (λ c. search needs)
     returns
     returns-2)

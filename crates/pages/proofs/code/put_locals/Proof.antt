@@ -18,26 +18,8 @@ Inv-loop p out₀ at set i₀ e₀ out i e = (i ≤ maxLocals) × Wrote out₀ a
 abbrev μ-loop : tie.MeasureT-loop
 μ-loop p out₀ at set i₀ e₀ out i e = maxLocals - i
 
-load-bytes-requires : tie.Need-load-bytes-requires Inv-loop μ-loop
-load-bytes-requires c κs = search needs
-
 loop-holds : tie.Need-loop-holds Inv-loop μ-loop
 loop-holds c = (omega arith, wrote-as (sym (below-none _)) (wrote-none _ _))
-
-cast-local : tie.Need-cast-local Inv-loop μ-loop
-cast-local c = search needs
-
-has-requires : tie.Need-has-requires Inv-loop μ-loop
-has-requires c κs = search needs
-
-put-local-requires : tie.Need-put-local-requires Inv-loop μ-loop
-put-local-requires c κs = search needs
-
-add-i : tie.Need-add-i Inv-loop μ-loop
-add-i c = search needs
-
-loop-less : tie.Need-loop-less Inv-loop μ-loop
-loop-less c = search needs
 
 loop-again : tie.Need-loop-again Inv-loop μ-loop
 loop-again c = let l = c .before .before .before .before .before .before .loop in (omega arith, wrote-as (sym (below-more (c .before .before .before .before .before .before .before .before .before .before .args .p .now) (l .i) _ _ (c .before .before .before .before .before .before .before .load-bytes .ensures) (c .before .before .before .before .has .ensures))) (wrote-then (l .inv .1) (c .before .before .put-local .ensures)))
@@ -54,13 +36,13 @@ put-locals-spec =
     (tie.spec
     Inv-loop
     μ-loop
-    load-bytes-requires
+    (λ c κs. search needs)
     loop-holds
-    cast-local
-    has-requires
-    put-local-requires
-    add-i
-    loop-less
+    (λ c. search needs)
+    (λ c κs. search needs)
+    (λ c κs. search needs)
+    (λ c. search needs)
+    (λ c. search needs)
     loop-again
     same-length
     returns)

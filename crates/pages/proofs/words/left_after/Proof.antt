@@ -10,9 +10,6 @@ use Rattle.pages.proofs.words.left_after.Tie as tie
 returns : tie.Need-returns
 returns c = let z : 0 ≡ c .before .before .args .left - 1 = omega arith in z ∙ left-bar _ _ (c .before .if1 .taken)
 
-sub-result : tie.Need-sub-result
-sub-result c = search needs
-
 returns-2 : tie.Need-returns-2
 returns-2 c = left-bar _ _ (c .before .if1 .taken)
 
@@ -20,4 +17,4 @@ returns-3 : tie.Need-returns-3
 returns-3 c = left-on _ _ (c .if1 .left)
 
 pub left-after-spec : {M : Type 1} → statement M
-left-after-spec = tie.close (tie.spec returns sub-result returns-2 returns-3)
+left-after-spec = tie.close (tie.spec returns (λ c. search needs) returns-2 returns-3)

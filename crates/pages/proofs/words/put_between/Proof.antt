@@ -7,21 +7,9 @@ use Rattle.listing.specs.Words.{said}
 use Rattle.pages.proofs.words.put_between.Statement.{statement}
 use Rattle.pages.proofs.words.put_between.Tie as tie
 
-u8-to-u32-requires : tie.Need-u8-to-u32-requires
-u8-to-u32-requires c κs = search needs
-
-put-number-requires : tie.Need-put-number-requires
-put-number-requires c κs = search needs
-
-put-bytes-requires : tie.Need-put-bytes-requires
-put-bytes-requires c κs = search needs
-
-same-length : tie.Need-same-length
-same-length c = search needs
-
 returns : tie.Need-returns
 returns c = wrote-then (wrote-as (ap (λ (x : ℕ). said (c .before .before .before .before .before .before .before .before .before .before .before .before .args .before .now) x) (c .before .before .before .before .before .before .before .before .u8-to-u32 .ensures .0)) (c .before .before .before .before .before .before .put-number .ensures)) (c .before .before .put-bytes .ensures)
 
 pub put-between-spec : {M : Type 1} → statement M
 put-between-spec =
-    tie.close (tie.spec u8-to-u32-requires put-number-requires put-bytes-requires same-length returns)
+    tie.close (tie.spec (λ c κs. search needs) (λ c κs. search needs) (λ c κs. search needs) (λ c. search needs) returns)

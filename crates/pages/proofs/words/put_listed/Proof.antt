@@ -27,18 +27,6 @@ same-length c = wrote-length (c .before .before .loop .inv .2)
 returns : tie.Need-returns Inv-loop μ-loop
 returns c = let s = c .before .before .before .before .before .before .before .args in wrote-as (ap (λ (k : ℕ). listed (s .before .now) (s .behind .now) (take k (s .xs .now))) (c .if1 .taken)) (c .before .before .loop .inv .2)
 
-shared-slice-read-put-between : tie.Need-shared-slice-read-put-between Inv-loop μ-loop
-shared-slice-read-put-between c = search needs
-
-put-between-requires : tie.Need-put-between-requires Inv-loop μ-loop
-put-between-requires c κs = search needs
-
-add-i : tie.Need-add-i Inv-loop μ-loop
-add-i c = search needs
-
-loop-less : tie.Need-loop-less Inv-loop μ-loop
-loop-less c = search needs
-
 loop-again : tie.Need-loop-again Inv-loop μ-loop
 loop-again c =
     let l = c .before .before .before .before .before .before .before .loop in
@@ -61,10 +49,10 @@ put-listed-spec =
     loop-holds
     same-length
     returns
-    shared-slice-read-put-between
-    put-between-requires
-    add-i
-    loop-less
+    (λ c. search needs)
+    (λ c κs. search needs)
+    (λ c. search needs)
+    (λ c. search needs)
     loop-again
     same-length-2
     returns-2)

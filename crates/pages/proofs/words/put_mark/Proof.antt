@@ -8,14 +8,8 @@ use Rattle.pages.proofs.words.put_mark.Tie as tie
 returns : tie.Need-returns
 returns c = wrote-as (marked-none _ _ (c .if1 .taken)) (wrote-none _ _)
 
-put-number-requires : tie.Need-put-number-requires
-put-number-requires c κs = search needs
-
-same-length : tie.Need-same-length
-same-length c = search needs
-
 returns-2 : tie.Need-returns-2
 returns-2 c = wrote-as (marked-some _ _ (c .before .before .before .before .if1 .left)) (c .before .before .put-number .ensures)
 
 pub put-mark-spec : {M : Type 1} → statement M
-put-mark-spec = tie.close (tie.spec returns put-number-requires same-length returns-2)
+put-mark-spec = tie.close (tie.spec returns (λ c κs. search needs) (λ c. search needs) returns-2)

@@ -5,9 +5,6 @@ use Rattle.pages.specs.WordLaws.{shown-yes, shown-not}
 use Rattle.pages.proofs.words.put_shown.Statement.{statement}
 use Rattle.pages.proofs.words.put_shown.Tie as tie
 
-put-byte-requires : tie.Need-put-byte-requires
-put-byte-requires c κs = search needs
-
 same-length : tie.Need-same-length
 same-length c = wrote-length (c .before .before .put-byte .ensures)
 
@@ -18,4 +15,4 @@ returns-2 : tie.Need-returns-2
 returns-2 c = wrote-as (shown-not _ _ (c .if1 .left)) (wrote-none _ _)
 
 pub put-shown-spec : {M : Type 1} → statement M
-put-shown-spec = tie.close (tie.spec put-byte-requires same-length returns returns-2)
+put-shown-spec = tie.close (tie.spec (λ c κs. search needs) same-length returns returns-2)

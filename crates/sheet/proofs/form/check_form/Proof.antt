@@ -8,15 +8,6 @@ use Rattle.sheet.specs.AcceptLaws.{is-heading}
 use Rattle.sheet.proofs.form.check_form.Statement.{statement}
 use Rattle.sheet.proofs.form.check_form.Tie as tie
 
-check-length-requires : tie.Need-check-length-requires
-check-length-requires c κs = search needs
-
-enum-told : tie.Need-enum-told
-enum-told c = search needs
-
-enum-told-2 : tie.Need-enum-told-2
-enum-told-2 c = search needs
-
 returns : tie.Need-returns
 unfolding checkForm
 returns c = refused-by _ _ _ (c .before .before .check-length .ensures) (c .enum-told2 .given .1)
@@ -24,24 +15,12 @@ returns c = refused-by _ _ _ (c .before .before .check-length .ensures) (c .enum
 check-blocks-requires : tie.Need-check-blocks-requires
 check-blocks-requires c κs = let z = length-sized _ (passed-whole 1 _ (accepted-by _ (c .before .before .check-length .ensures) (c .enum-told .given .1))) in (z .blocks, z .high)
 
-enum-told-3 : tie.Need-enum-told-3
-enum-told-3 c = search needs
-
-enum-told-4 : tie.Need-enum-told-4
-enum-told-4 c = search needs
-
 returns-2 : tie.Need-returns-2
 unfolding checkForm
 returns-2 c = refused-by _ _ _ (c .before .before .check-blocks .ensures) (c .enum-told4 .given .1) ∙ sym (then-goes _ (accepted-by _ (c .before .before .before .before .before .check-length .ensures) (c .before .before .before .enum-told .given .1)))
 
 check-heading-requires : tie.Need-check-heading-requires
 check-heading-requires c κs = length-sized _ (passed-whole 1 _ (accepted-by _ (c .before .before .before .before .before .check-length .ensures) (c .before .before .before .enum-told .given .1))) .low
-
-enum-told-5 : tie.Need-enum-told-5
-enum-told-5 c = search needs
-
-enum-told-6 : tie.Need-enum-told-6
-enum-told-6 c = search needs
 
 returns-3 : tie.Need-returns-3
 unfolding checkForm
@@ -58,17 +37,17 @@ pub check-form-spec : {M : Type 1} → statement M
 check-form-spec =
     tie.close
     (tie.spec
-    check-length-requires
-    enum-told
-    enum-told-2
+    (λ c κs. search needs)
+    (λ c. search needs)
+    (λ c. search needs)
     returns
     check-blocks-requires
-    enum-told-3
-    enum-told-4
+    (λ c. search needs)
+    (λ c. search needs)
     returns-2
     check-heading-requires
-    enum-told-5
-    enum-told-6
+    (λ c. search needs)
+    (λ c. search needs)
     returns-3
     check-records-requires
     returns-4)

@@ -5,9 +5,6 @@ use Rattle.base.specs.RefusalLaws.{refused-whole, accepted-whole}
 use Rattle.sheet.proofs.form.check_heading.Statement.{statement}
 use Rattle.sheet.proofs.form.check_heading.Tie as tie
 
-heading-ok-requires : tie.Need-heading-ok-requires
-heading-ok-requires c κs = search needs
-
 returns : tie.Need-returns
 returns c = accepted-whole 3 (sym (c .before .heading-ok .ensures) ∙ c .if1 .taken)
 
@@ -15,4 +12,4 @@ returns-2 : tie.Need-returns-2
 returns-2 c = refused-whole 3 (sym (c .before .heading-ok .ensures) ∙ c .if1 .left)
 
 pub check-heading-spec : {M : Type 1} → statement M
-check-heading-spec = tie.close (tie.spec heading-ok-requires returns returns-2)
+check-heading-spec = tie.close (tie.spec (λ c κs. search needs) returns returns-2)

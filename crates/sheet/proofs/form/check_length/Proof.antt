@@ -5,9 +5,6 @@ use Rattle.base.specs.RefusalLaws.{refused-whole, accepted-whole}
 use Rattle.sheet.proofs.form.check_length.Statement.{statement}
 use Rattle.sheet.proofs.form.check_length.Tie as tie
 
-length-ok-requires : tie.Need-length-ok-requires
-length-ok-requires c κs = search needs
-
 returns : tie.Need-returns
 returns c = accepted-whole 1 (sym (c .before .length-ok .ensures) ∙ c .if1 .taken)
 
@@ -15,4 +12,4 @@ returns-2 : tie.Need-returns-2
 returns-2 c = refused-whole 1 (sym (c .before .length-ok .ensures) ∙ c .if1 .left)
 
 pub check-length-spec : {M : Type 1} → statement M
-check-length-spec = tie.close (tie.spec length-ok-requires returns returns-2)
+check-length-spec = tie.close (tie.spec (λ c κs. search needs) returns returns-2)

@@ -21,25 +21,13 @@ by-count : (s : List ℕ) (n : ℕ) (r : Found) → n ≡ u16At s 4 → r ≡ fo
 unfolding countOf
 by-count s n r e q = q ∙ ap (λ (x : ℕ). foundOf (firstBad (blockRecords * recordBlocks x) 0 (placeOk s))) e
 
-u16-at-requires : tie.Need-u16-at-requires
-u16-at-requires c κs = search needs
-
-cast-n : tie.Need-cast-n
-cast-n c = search needs
-
 first-bad-record-requires : tie.Need-first-bad-record-requires
 unfolding countOf
 first-bad-record-requires c κs = (c .u16-at .ensures, omega (arith, c .u16-at .ensures), c .before .before .pre .1 ∙ ap (λ (x : ℕ). blockBytes * (1 + recordBlocks x)) (sym (c .u16-at .ensures)))
 
-enum-known-k : tie.Need-enum-known-k
-enum-known-k c = search needs
-
 cast-t7 : tie.Need-cast-t7
 unfolding recordBlocks
 cast-t7 c = omega (arith, bad-lt _ _ _ _ (found-at _ _ (sym (c .before .k .given .1) ∙ c .before .before .before .first-bad-record .ensures)))
-
-enum-told : tie.Need-enum-told
-enum-told c = search needs
 
 returns : tie.Need-returns
 returns c = refused-at 4 (found-at _ _ (sym (c .before .k .given .1) ∙ by-count _ _ _ (c .before .before .before .before .u16-at .ensures) (c .before .before .before .first-bad-record .ensures)))
@@ -51,11 +39,11 @@ pub check-records-spec : {M : Type 1} → statement M
 check-records-spec =
     tie.close
     (tie.spec
-    u16-at-requires
-    cast-n
+    (λ c κs. search needs)
+    (λ c. search needs)
     first-bad-record-requires
-    enum-known-k
+    (λ c. search needs)
     cast-t7
-    enum-told
+    (λ c. search needs)
     returns
     returns-2)

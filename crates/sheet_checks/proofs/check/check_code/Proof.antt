@@ -7,38 +7,11 @@ use Rattle.base.specs.Refusals.{verdictOf}
 use Rattle.sheet_checks.proofs.check.check_code.Statement.{statement}
 use Rattle.sheet_checks.proofs.check.check_code.Tie as tie
 
-check-locals-requires : tie.Need-check-locals-requires
-check-locals-requires c κs = search needs
-
-enum-told : tie.Need-enum-told
-enum-told c = search needs
-
-enum-told-2 : tie.Need-enum-told-2
-enum-told-2 c = search needs
-
 returns : tie.Need-returns
 returns c = (refused-by _ _ _ (c .before .before .check-locals .ensures) (c .enum-told2 .given .1) ∙ sym (code-is _ _ (c .before .before .before .before .before .pre .0)), λ e. absurd (refused-not _ _ (c .enum-told2 .given .1) e))
 
-check-labels-requires : tie.Need-check-labels-requires
-check-labels-requires c κs = search needs
-
-enum-told-3 : tie.Need-enum-told-3
-enum-told-3 c = search needs
-
-enum-told-4 : tie.Need-enum-told-4
-enum-told-4 c = search needs
-
-same-length : tie.Need-same-length
-same-length c = search needs
-
 returns-2 : tie.Need-returns-2
 returns-2 c = (refused-by _ _ _ (c .before .before .before .before .check-labels .ensures .answer) (c .enum-told4 .given .1) ∙ then-assoc _ _ _ ∙ sym (then-goes _ (accepted-by _ (c .before .before .before .before .before .before .before .before .check-locals .ensures) (c .before .before .before .before .before .before .enum-told .given .1))) ∙ sym (code-is _ _ (c .before .before .before .before .before .before .before .before .before .before .before .pre .0)), λ e. absurd (refused-not _ _ (c .enum-told4 .given .1) e))
-
-check-end-requires : tie.Need-check-end-requires
-check-end-requires c κs = search needs
-
-same-length-2 : tie.Need-same-length-2
-same-length-2 c = search needs
 
 returns-3 : tie.Need-returns-3
 returns-3 c =
@@ -49,15 +22,15 @@ pub check-code-spec : {M : Type 1} → statement M
 check-code-spec =
     tie.close
     (tie.spec
-    check-locals-requires
-    enum-told
-    enum-told-2
+    (λ c κs. search needs)
+    (λ c. search needs)
+    (λ c. search needs)
     returns
-    check-labels-requires
-    enum-told-3
-    enum-told-4
-    same-length
+    (λ c κs. search needs)
+    (λ c. search needs)
+    (λ c. search needs)
+    (λ c. search needs)
     returns-2
-    check-end-requires
-    same-length-2
+    (λ c κs. search needs)
+    (λ c. search needs)
     returns-3)

@@ -6,15 +6,6 @@ use mathlib.Core.Bool.{not}
 use Rattle.sheet_checks.proofs.check.check_end.Statement.{statement}
 use Rattle.sheet_checks.proofs.check.check_end.Tie as tie
 
-last-falls-requires : tie.Need-last-falls-requires
-last-falls-requires c κs = search needs
-
-sub-t4 : tie.Need-sub-t4
-sub-t4 c = search needs
-
-cast-t5 : tie.Need-cast-t5
-cast-t5 c = search needs
-
 returns : tie.Need-returns
 returns c = end-refused _ _ (ap not (sym (c .before .last-falls .ensures) ∙ c .if1 .taken))
 
@@ -22,4 +13,4 @@ returns-2 : tie.Need-returns-2
 returns-2 c = end-accepted _ _ (ap not (sym (c .before .last-falls .ensures) ∙ c .if1 .left))
 
 pub check-end-spec : {M : Type 1} → statement M
-check-end-spec = tie.close (tie.spec last-falls-requires sub-t4 cast-t5 returns returns-2)
+check-end-spec = tie.close (tie.spec (λ c κs. search needs) (λ c. search needs) (λ c. search needs) returns returns-2)

@@ -9,15 +9,6 @@ use Rattle.sheet.specs.Layout.{countOf}
 use Rattle.sheet_checks.proofs.check.check_into.Statement.{statement}
 use Rattle.sheet_checks.proofs.check.check_into.Tie as tie
 
-check-form-requires : tie.Need-check-form-requires
-check-form-requires c κs = search needs
-
-enum-told : tie.Need-enum-told
-enum-told c = search needs
-
-enum-told-2 : tie.Need-enum-told-2
-enum-told-2 c = search needs
-
 returns : tie.Need-returns
 unfolding checkSheet
 returns c = (refused-by _ _ _ (c .before .before .check-form .ensures) (c .enum-told2 .given .1), λ e. absurd (refused-not _ _ (c .enum-told2 .given .1) e))
@@ -25,17 +16,11 @@ returns c = (refused-by _ _ _ (c .before .before .check-form .ensures) (c .enum-
 u16-at-requires : tie.Need-u16-at-requires
 u16-at-requires c κs = let h = form-shaped _ _ refl (accepted-by _ (c .before .before .check-form .ensures) (c .enum-told .given .1)) in omega (arith, h .size, h .some)
 
-cast-n : tie.Need-cast-n
-cast-n c = search needs
-
 check-code-requires : tie.Need-check-code-requires
 unfolding countOf
 check-code-requires c κs =
     let c4 = c .before .before .before .before in
     (form-shaped _ _ (c .before .u16-at .ensures) (accepted-by _ (c4 .check-form .ensures) (c .before .before .enum-told .given .1)), omega (arith, form-shaped _ _ (c .before .u16-at .ensures) (accepted-by _ (c4 .check-form .ensures) (c .before .before .enum-told .given .1)) .few, c .before .before .before .before .before .before .before .pre))
-
-same-length : tie.Need-same-length
-same-length c = search needs
 
 returns-2 : tie.Need-returns-2
 unfolding checkSheet
@@ -45,12 +30,12 @@ pub check-into-spec : {M : Type 1} → statement M
 check-into-spec =
     tie.close
     (tie.spec
-    check-form-requires
-    enum-told
-    enum-told-2
+    (λ c κs. search needs)
+    (λ c. search needs)
+    (λ c. search needs)
     returns
     u16-at-requires
-    cast-n
+    (λ c. search needs)
     check-code-requires
-    same-length
+    (λ c. search needs)
     returns-2)

@@ -19,23 +19,8 @@ use Rattle.sheet_checks.proofs.check.check_locals.Tie as tie
 by-locals : (s : List ℕ) (n l : ℕ) → l ≡ u16At s 6 → foundOf (firstBad n 0 (λ k. localsOk l (at (codeOf s) k))) ≡ foundOf (firstBad n 0 (λ k. localsOk (u16At s 6) (at (codeOf s) k)))
 by-locals s n l e = ap (λ (x : ℕ). foundOf (firstBad n 0 (λ k. localsOk x (at (codeOf s) k)))) e
 
-u16-at-requires : tie.Need-u16-at-requires
-u16-at-requires c κs = search needs
-
-cast-locals : tie.Need-cast-locals
-cast-locals c = search needs
-
-first-bad-local-requires : tie.Need-first-bad-local-requires
-first-bad-local-requires c κs = search needs
-
-enum-known-k : tie.Need-enum-known-k
-enum-known-k c = search needs
-
 cast-t8 : tie.Need-cast-t8
 cast-t8 c = omega (arith, bad-lt _ _ _ _ (found-at _ _ (sym (c .before .k .given .1) ∙ c .before .before .before .first-bad-local .ensures)), c .before .before .before .before .before .before .pre .few)
-
-enum-told : tie.Need-enum-told
-enum-told c = search needs
 
 returns : tie.Need-returns
 unfolding localsOf
@@ -49,11 +34,11 @@ pub check-locals-spec : {M : Type 1} → statement M
 check-locals-spec =
     tie.close
     (tie.spec
-    u16-at-requires
-    cast-locals
-    first-bad-local-requires
-    enum-known-k
+    (λ c κs. search needs)
+    (λ c. search needs)
+    (λ c κs. search needs)
+    (λ c. search needs)
     cast-t8
-    enum-told
+    (λ c. search needs)
     returns
     returns-2)

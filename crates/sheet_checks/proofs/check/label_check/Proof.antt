@@ -9,36 +9,15 @@ use Rattle.sheet.specs.Shaped.{code-size}
 use Rattle.sheet_checks.proofs.check.label_check.Statement.{statement}
 use Rattle.sheet_checks.proofs.check.label_check.Tie as tie
 
-list-labels-requires : tie.Need-list-labels-requires
-list-labels-requires c κs = search needs
-
-enum-known-k : tie.Need-enum-known-k
-enum-known-k c = search needs
-
 cast-t15 : tie.Need-cast-t15
 cast-t15 c =
     let c14 = c .before .before .before .before .before .before .before .before .before .before .before .before .before .before in
     omega (arith, bad-lt _ _ _ _ (repeats (c .before .before .before .before .before .before .before .list-labels .ensures) (c .before .k .given .1)), code-size (c14 .pre .0), c14 .pre .0 .few)
 
-enum-known-m : tie.Need-enum-known-m
-enum-known-m c = search needs
-
-sub-resolve : tie.Need-sub-resolve
-sub-resolve c = search needs
-
-part-resolve-start : tie.Need-part-resolve-start
-part-resolve-start c = search needs
-
 part-resolve-end : tie.Need-part-resolve-end
 part-resolve-end c =
     let c15 = c .before .before .before .before .before .before .before .before .before .before .before .before .before .before .before in
     omega (arith, c .before .before .before .before .before .before .before .before .list-labels .ensures .few _ (c .before .before .m .given .1), code-size (c15 .pre .0), c15 .pre .1)
-
-sub-resolve-2 : tie.Need-sub-resolve-2
-sub-resolve-2 c = search needs
-
-part-resolve-start-2 : tie.Need-part-resolve-start-2
-part-resolve-start-2 c = search needs
 
 part-resolve-end-2 : tie.Need-part-resolve-end-2
 part-resolve-end-2 c =
@@ -50,44 +29,14 @@ resolve-requires c κs =
     let c19 = c .before .before .before .before .before .before .before .before .before .before .before .before .before .before .before .before .before .before .before in
     (c19 .pre .0, labels-listed (c .before .before .before .before .before .before .before .before .before .before .before .before .list-labels .ensures) (c .before .before .before .before .before .before .m .given .1), c19 .pre .3)
 
-enum-known-k-2 : tie.Need-enum-known-k-2
-enum-known-k-2 c = search needs
-
 cast-t29 : tie.Need-cast-t29
 cast-t29 c = omega (arith, bad-lt _ _ _ _ (found-at _ _ (sym (c .before .k2 .given .1) ∙ c .before .before .before .before .before .resolve .ensures .first)), c .before .before .before .before .before .before .before .before .before .before .before .before .before .before .before .before .before .before .before .before .before .before .before .before .before .pre .0 .few)
-
-enum-told : tie.Need-enum-told
-enum-told c = search needs
-
-same-length : tie.Need-same-length
-same-length c = search needs
-
-same-length-2 : tie.Need-same-length-2
-same-length-2 c = search needs
 
 returns : tie.Need-returns
 returns c = labelled-repeated (code-size (c .before .before .before .before .before .before .before .before .before .before .before .before .before .before .pre .0)) (c .before .before .before .before .before .before .before .list-labels .ensures) (c .before .k .given .1)
 
-same-length-3 : tie.Need-same-length-3
-same-length-3 c = search needs
-
-same-length-4 : tie.Need-same-length-4
-same-length-4 c = search needs
-
-same-length-5 : tie.Need-same-length-5
-same-length-5 c = search needs
-
 returns-2 : tie.Need-returns-2
 returns-2 c = labelled-undefined (code-size (c .before .before .before .before .before .before .before .before .before .before .before .before .before .before .before .before .before .before .before .before .before .before .before .before .before .pre .0)) (c .before .before .before .before .before .before .before .before .before .before .before .before .before .before .before .before .before .before .list-labels .ensures) (c .before .before .before .before .before .before .before .before .before .before .before .before .m .given .1) (c .before .before .before .before .before .resolve .ensures) (c .before .k2 .given .1)
-
-same-length-6 : tie.Need-same-length-6
-same-length-6 c = search needs
-
-same-length-7 : tie.Need-same-length-7
-same-length-7 c = search needs
-
-same-length-8 : tie.Need-same-length-8
-same-length-8 c = search needs
 
 returns-3 : tie.Need-returns-3
 returns-3 c = labelled-all (code-size (c .before .before .before .before .before .before .before .before .before .before .before .before .before .before .before .before .before .before .before .before .before .before .before .before .pre .0)) (c .before .before .before .before .before .before .before .before .before .before .before .before .before .before .before .before .before .list-labels .ensures) (c .before .before .before .before .before .before .before .before .before .before .before .m .given .1) (c .before .before .before .before .resolve .ensures) (c .enum-told .given .1)
@@ -96,28 +45,28 @@ pub label-check-spec : {M : Type 1} → statement M
 label-check-spec =
     tie.close
     (tie.spec
-    list-labels-requires
-    enum-known-k
+    (λ c κs. search needs)
+    (λ c. search needs)
     cast-t15
-    enum-known-m
-    sub-resolve
-    part-resolve-start
+    (λ c. search needs)
+    (λ c. search needs)
+    (λ c. search needs)
     part-resolve-end
-    sub-resolve-2
-    part-resolve-start-2
+    (λ c. search needs)
+    (λ c. search needs)
     part-resolve-end-2
     resolve-requires
-    enum-known-k-2
+    (λ c. search needs)
     cast-t29
-    enum-told
-    same-length
-    same-length-2
+    (λ c. search needs)
+    (λ c. search needs)
+    (λ c. search needs)
     returns
-    same-length-3
-    same-length-4
-    same-length-5
+    (λ c. search needs)
+    (λ c. search needs)
+    (λ c. search needs)
     returns-2
-    same-length-6
-    same-length-7
-    same-length-8
+    (λ c. search needs)
+    (λ c. search needs)
+    (λ c. search needs)
     returns-3)

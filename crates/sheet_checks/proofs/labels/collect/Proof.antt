@@ -26,24 +26,6 @@ loop-holds c = pass-none _ _ _ _ _ (c .before .before .before .before .pre .1)
 instruction-at-requires : tie.Need-instruction-at-requires Inv-loop μ-loop
 instruction-at-requires c κs = (record-inside (c .before .before .before .before .before .before .pre .0) _ (search needs), search needs)
 
-is-label-requires : tie.Need-is-label-requires Inv-loop μ-loop
-is-label-requires c κs = search needs
-
-u16-to-usize-requires : tie.Need-u16-to-usize-requires Inv-loop μ-loop
-u16-to-usize-requires c κs = search needs
-
-has-bit-requires : tie.Need-has-bit-requires Inv-loop μ-loop
-has-bit-requires c κs = search needs
-
-same-length : tie.Need-same-length Inv-loop μ-loop
-same-length c = search needs
-
-same-length-2 : tie.Need-same-length-2 Inv-loop μ-loop
-same-length-2 c = search needs
-
-same-length-3 : tie.Need-same-length-3 Inv-loop μ-loop
-same-length-3 c = search needs
-
 returns : tie.Need-returns Inv-loop μ-loop
 returns c =
     let c13 = c .before .before .before .before .before .before .before .before .before .before .before .before .before in
@@ -52,33 +34,6 @@ returns c =
     let wide = c .before .before .before .u16-to-usize in
     labels-repeated (code-size (c13 .pre .0))
     (pass-stop (l .inv) (code-size (c13 .pre .0)) (search needs) (ap (λ (r : Bytecode). eqb (r .kind) Label) is ∙ sym (c .before .before .before .before .before .is-label .ensures) ∙ c .before .before .before .before .if1 .taken) (wide .result) (wide .ensures .0 ∙ ap (λ (r : Bytecode). r .one) (sym is)) (omega (arith, wide .ensures .1)) (sym (c .before .has-bit .ensures) ∙ c .if2 .taken))
-
-put-bit-requires : tie.Need-put-bit-requires Inv-loop μ-loop
-put-bit-requires c κs = search needs
-
-mul-labels : tie.Need-mul-labels Inv-loop μ-loop
-mul-labels c = search needs
-
-slice-write-labels : tie.Need-slice-write-labels Inv-loop μ-loop
-slice-write-labels c = search needs
-
-cast-places : tie.Need-cast-places Inv-loop μ-loop
-cast-places c = search needs
-
-mul-places : tie.Need-mul-places Inv-loop μ-loop
-mul-places c = search needs
-
-slice-write-places : tie.Need-slice-write-places Inv-loop μ-loop
-slice-write-places c = search needs
-
-add-m : tie.Need-add-m Inv-loop μ-loop
-add-m c = search needs
-
-add-k : tie.Need-add-k Inv-loop μ-loop
-add-k c = search needs
-
-loop-less : tie.Need-loop-less Inv-loop μ-loop
-loop-less c = search needs
 
 loop-again : tie.Need-loop-again Inv-loop μ-loop
 loop-again c =
@@ -94,15 +49,6 @@ loop-again c =
     (λ w. pass-skip (l .inv) (code-size (c9 .pre .0)) (search needs) (label ∙ w .0 .left) (w .1) (w .2) (w .3) (w .4))
     (c .if1 .came)
 
-same-length-4 : tie.Need-same-length-4 Inv-loop μ-loop
-same-length-4 c = search needs
-
-same-length-5 : tie.Need-same-length-5 Inv-loop μ-loop
-same-length-5 c = search needs
-
-same-length-6 : tie.Need-same-length-6 Inv-loop μ-loop
-same-length-6 c = search needs
-
 returns-2 : tie.Need-returns-2 Inv-loop μ-loop
 returns-2 c = labels-count (c .before .loop .inv) (code-size (c .before .before .before .before .before .before .pre .0)) (search needs)
 
@@ -114,24 +60,24 @@ collect-spec =
     μ-loop
     loop-holds
     instruction-at-requires
-    is-label-requires
-    u16-to-usize-requires
-    has-bit-requires
-    same-length
-    same-length-2
-    same-length-3
+    (λ c κs. search needs)
+    (λ c κs. search needs)
+    (λ c κs. search needs)
+    (λ c. search needs)
+    (λ c. search needs)
+    (λ c. search needs)
     returns
-    put-bit-requires
-    mul-labels
-    slice-write-labels
-    cast-places
-    mul-places
-    slice-write-places
-    add-m
-    add-k
-    loop-less
+    (λ c κs. search needs)
+    (λ c. search needs)
+    (λ c. search needs)
+    (λ c. search needs)
+    (λ c. search needs)
+    (λ c. search needs)
+    (λ c. search needs)
+    (λ c. search needs)
+    (λ c. search needs)
     loop-again
-    same-length-4
-    same-length-5
-    same-length-6
+    (λ c. search needs)
+    (λ c. search needs)
+    (λ c. search needs)
     returns-2)

@@ -9,18 +9,9 @@ use borrow.Author.Needs.{needs}
 use Rattle.sheet_checks.proofs.labels.has_bit.Statement.{statement}
 use Rattle.sheet_checks.proofs.labels.has_bit.Tie as tie
 
-mul-result : tie.Need-mul-result
-mul-result c = search needs
-
-shared-slice-read-result : tie.Need-shared-slice-read-result
-shared-slice-read-result c = search needs
-
-shr-result : tie.Need-shr-result
-shr-result c = search needs
-
 returns : tie.Need-returns
 unfolding holds bit
 returns c = let a = c .before .args in ap (λ (x : ℕ). eqb x 1) (and-mask (getD (a .seen .now) (a .l / 64) 0 / 2 ^ (a .l % 64)) 1)
 
 pub has-bit-spec : {M : Type 1} → statement M
-has-bit-spec = tie.close (tie.spec mul-result shared-slice-read-result shr-result returns)
+has-bit-spec = tie.close (tie.spec (λ c. search needs) (λ c. search needs) (λ c. search needs) returns)

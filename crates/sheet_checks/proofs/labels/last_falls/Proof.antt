@@ -7,17 +7,11 @@ use borrow.Author.Needs.{needs}
 use Rattle.sheet_checks.proofs.labels.last_falls.Statement.{statement}
 use Rattle.sheet_checks.proofs.labels.last_falls.Tie as tie
 
-sub-k : tie.Need-sub-k
-sub-k c = search needs
-
 instruction-at-requires : tie.Need-instruction-at-requires
 instruction-at-requires c κs = (record-inside (c .before .pre) _ (omega (arith, c .before .pre .some)), omega (arith, c .before .pre .few))
-
-falls-through-requires : tie.Need-falls-through-requires
-falls-through-requires c κs = search needs
 
 returns : tie.Need-returns
 returns c = c .falls-through .ensures ∙ ap fallsThrough (c .before .instruction-at .ensures ∙ sym (code-at (c .before .before .before .pre) _ (omega (arith, c .before .before .before .pre .some))))
 
 pub last-falls-spec : {M : Type 1} → statement M
-last-falls-spec = tie.close (tie.spec sub-k instruction-at-requires falls-through-requires returns)
+last-falls-spec = tie.close (tie.spec (λ c. search needs) instruction-at-requires (λ c κs. search needs) returns)

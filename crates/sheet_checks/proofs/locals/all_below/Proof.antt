@@ -15,28 +15,13 @@ Inv-loop count n xs to i₀ i = all (λ x. ltb x n) (take count xs) ≡ all (λ 
 abbrev μ-loop : tie.MeasureT-loop
 μ-loop count n xs to i₀ i = to - i
 
-u8-to-usize-requires : tie.Need-u8-to-usize-requires Inv-loop μ-loop
-u8-to-usize-requires c κs = search needs
-
 loop-holds : tie.Need-loop-holds Inv-loop μ-loop
 loop-holds c = refl
-
-array-read-u8-to-usize : tie.Need-array-read-u8-to-usize Inv-loop μ-loop
-array-read-u8-to-usize c = search needs
-
-u8-to-usize-requires-2 : tie.Need-u8-to-usize-requires-2 Inv-loop μ-loop
-u8-to-usize-requires-2 c κs = search needs
 
 returns : tie.Need-returns Inv-loop μ-loop
 returns c =
     let a = c .before .before .before .before .before .args in
     sym (c .before .before .before .loop .inv ∙ below-stop (a .n) (a .count) _ (search needs) (c .before .before .before .loop .i) (search needs) (search needs))
-
-add-i : tie.Need-add-i Inv-loop μ-loop
-add-i c = search needs
-
-loop-less : tie.Need-loop-less Inv-loop μ-loop
-loop-less c = search needs
 
 loop-again : tie.Need-loop-again Inv-loop μ-loop
 loop-again c =
@@ -54,12 +39,12 @@ all-below-spec =
     (tie.spec
     Inv-loop
     μ-loop
-    u8-to-usize-requires
+    (λ c κs. search needs)
     loop-holds
-    array-read-u8-to-usize
-    u8-to-usize-requires-2
+    (λ c. search needs)
+    (λ c κs. search needs)
     returns
-    add-i
-    loop-less
+    (λ c. search needs)
+    (λ c. search needs)
     loop-again
     returns-2)

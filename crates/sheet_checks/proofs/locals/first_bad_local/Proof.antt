@@ -35,12 +35,6 @@ returns c =
     let k = c4 .loop .k in
     sym (ap foundOf (c4 .loop .inv ∙ bad-stop _ k _ (search needs) (ap (localsOk _) (code-at (c .before .before .before .before .before .before .pre) k (search needs) ∙ sym (c .before .before .instruction-at .ensures)) ∙ sym (c .before .locals-ok .ensures) ∙ not-true _ (c .if1 .taken))))
 
-add-k : tie.Need-add-k Inv-loop μ-loop
-add-k c = search needs
-
-loop-less : tie.Need-loop-less Inv-loop μ-loop
-loop-less c = search needs
-
 loop-again : tie.Need-loop-again Inv-loop μ-loop
 loop-again c =
     let c4 = c .before .before .before .before in
@@ -60,7 +54,7 @@ first-bad-local-spec =
     instruction-at-requires
     locals-ok-requires
     returns
-    add-k
-    loop-less
+    (λ c. search needs)
+    (λ c. search needs)
     loop-again
     returns-2)

@@ -8,24 +8,12 @@ use borrow.Author.Needs.{needs}
 use Rattle.sheet_checks.proofs.locals.locals_ok.Statement.{statement}
 use Rattle.sheet_checks.proofs.locals.locals_ok.Tie as tie
 
-all-below-requires : tie.Need-all-below-requires
-all-below-requires c κs = search needs
-
 returns : tie.Need-returns
 returns c = sym (locals-are _ _ (sym (c .before .all-below .ensures) ∙ not-true _ (c .if1 .taken)) refl refl)
-
-all-below-requires-2 : tie.Need-all-below-requires-2
-all-below-requires-2 c κs = search needs
 
 returns-2 : tie.Need-returns-2
 returns-2 c =
     sym (locals-are _ _ (sym (c .before .before .before .before .all-below .ensures) ∙ not-false _ (c .before .before .before .if1 .left)) (sym (c .before .all-below2 .ensures) ∙ not-true _ (c .if2 .taken)) refl)
-
-is-flagged-requires : tie.Need-is-flagged-requires
-is-flagged-requires c κs = search needs
-
-u8-to-usize-requires : tie.Need-u8-to-usize-requires
-u8-to-usize-requires c κs = search needs
 
 returns-3 : tie.Need-returns-3
 returns-3 c =
@@ -39,11 +27,11 @@ pub locals-ok-spec : {M : Type 1} → statement M
 locals-ok-spec =
     tie.close
     (tie.spec
-    all-below-requires
+    (λ c κs. search needs)
     returns
-    all-below-requires-2
+    (λ c κs. search needs)
     returns-2
-    is-flagged-requires
-    u8-to-usize-requires
+    (λ c κs. search needs)
+    (λ c κs. search needs)
     returns-3
     returns-4)

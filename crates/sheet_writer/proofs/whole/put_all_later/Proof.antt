@@ -18,51 +18,6 @@ abbrev μ-loop : tie.MeasureT-loop
 loop-holds : tie.Need-loop-holds Inv-loop μ-loop
 loop-holds c = (omega arith, refl, blocks-none _ _)
 
-mul-from : tie.Need-mul-from Inv-loop μ-loop
-mul-from c = search needs
-
-mul-at : tie.Need-mul-at Inv-loop μ-loop
-mul-at c = search needs
-
-add-put-later : tie.Need-add-put-later Inv-loop μ-loop
-add-put-later c = search needs
-
-sub-put-later : tie.Need-sub-put-later Inv-loop μ-loop
-sub-put-later c = search needs
-
-part-put-later-start : tie.Need-part-put-later-start Inv-loop μ-loop
-part-put-later-start c = search needs
-
-part-put-later-end : tie.Need-part-put-later-end Inv-loop μ-loop
-part-put-later-end c = search needs
-
-add-put-later-2 : tie.Need-add-put-later-2 Inv-loop μ-loop
-add-put-later-2 c = search needs
-
-cast-put-later : tie.Need-cast-put-later Inv-loop μ-loop
-cast-put-later c = search needs
-
-add-put-later-3 : tie.Need-add-put-later-3 Inv-loop μ-loop
-add-put-later-3 c = search needs
-
-sub-put-later-2 : tie.Need-sub-put-later-2 Inv-loop μ-loop
-sub-put-later-2 c = search needs
-
-part-put-later-start-2 : tie.Need-part-put-later-start-2 Inv-loop μ-loop
-part-put-later-start-2 c = search needs
-
-part-put-later-end-2 : tie.Need-part-put-later-end-2 Inv-loop μ-loop
-part-put-later-end-2 c = search needs
-
-put-later-requires : tie.Need-put-later-requires Inv-loop μ-loop
-put-later-requires c κs = search needs
-
-add-b : tie.Need-add-b Inv-loop μ-loop
-add-b c = search needs
-
-loop-less : tie.Need-loop-less Inv-loop μ-loop
-loop-less c = search needs
-
 loop-again : tie.Need-loop-again Inv-loop μ-loop
 loop-again c =
     let p = c .before .before .before .before .before .before in
@@ -83,21 +38,21 @@ put-all-later-spec =
     Inv-loop
     μ-loop
     loop-holds
-    mul-from
-    mul-at
-    add-put-later
-    sub-put-later
-    part-put-later-start
-    part-put-later-end
-    add-put-later-2
-    cast-put-later
-    add-put-later-3
-    sub-put-later-2
-    part-put-later-start-2
-    part-put-later-end-2
-    put-later-requires
-    add-b
-    loop-less
+    (λ c. search needs)
+    (λ c. search needs)
+    (λ c. search needs)
+    (λ c. search needs)
+    (λ c. search needs)
+    (λ c. search needs)
+    (λ c. search needs)
+    (λ c. search needs)
+    (λ c. search needs)
+    (λ c. search needs)
+    (λ c. search needs)
+    (λ c. search needs)
+    (λ c κs. search needs)
+    (λ c. search needs)
+    (λ c. search needs)
     loop-again
     same-length
     returns)

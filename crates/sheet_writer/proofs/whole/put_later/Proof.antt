@@ -9,39 +9,6 @@ use borrow.Author.Needs.{needs}
 use Rattle.sheet_writer.proofs.whole.put_later.Statement.{statement}
 use Rattle.sheet_writer.proofs.whole.put_later.Tie as tie
 
-slice-aggregate-copy : tie.Need-slice-aggregate-copy
-slice-aggregate-copy c = search needs
-
-sub-copy : tie.Need-sub-copy
-sub-copy c = search needs
-
-part-copy-start : tie.Need-part-copy-start
-part-copy-start c = search needs
-
-part-copy-end : tie.Need-part-copy-end
-part-copy-end c = search needs
-
-copy-requires : tie.Need-copy-requires
-copy-requires c κs = search needs
-
-sub-copy-2 : tie.Need-sub-copy-2
-sub-copy-2 c = search needs
-
-part-copy-start-2 : tie.Need-part-copy-start-2
-part-copy-start-2 c = search needs
-
-part-copy-end-2 : tie.Need-part-copy-end-2
-part-copy-end-2 c = search needs
-
-copy-requires-2 : tie.Need-copy-requires-2
-copy-requires-2 c κs = search needs
-
-seal-requires : tie.Need-seal-requires
-seal-requires c κs = search needs
-
-same-length : tie.Need-same-length
-same-length c = search needs
-
 returns : tie.Need-returns
 returns c =
     let p6 = c .before .before .before .before .before .before in
@@ -53,15 +20,15 @@ pub put-later-spec : {M : Type 1} → statement M
 put-later-spec =
     tie.close
     (tie.spec
-    slice-aggregate-copy
-    sub-copy
-    part-copy-start
-    part-copy-end
-    copy-requires
-    sub-copy-2
-    part-copy-start-2
-    part-copy-end-2
-    copy-requires-2
-    seal-requires
-    same-length
+    (λ c. search needs)
+    (λ c. search needs)
+    (λ c. search needs)
+    (λ c. search needs)
+    (λ c κs. search needs)
+    (λ c. search needs)
+    (λ c. search needs)
+    (λ c. search needs)
+    (λ c κs. search needs)
+    (λ c κs. search needs)
+    (λ c. search needs)
     returns)

@@ -13,47 +13,11 @@ use borrow.Author.Needs.{needs}
 use Rattle.sheet_writer.proofs.whole.write_sheet.Statement.{statement}
 use Rattle.sheet_writer.proofs.whole.write_sheet.Tie as tie
 
-record-blocks-requires : tie.Need-record-blocks-requires
-record-blocks-requires c κs = search needs
-
-sub-put-heading : tie.Need-sub-put-heading
-sub-put-heading c = search needs
-
-part-put-heading-start : tie.Need-part-put-heading-start
-part-put-heading-start c = search needs
-
-part-put-heading-end : tie.Need-part-put-heading-end
-part-put-heading-end c = search needs
-
-put-heading-requires : tie.Need-put-heading-requires
-put-heading-requires c κs = search needs
-
-sub-put-all-later : tie.Need-sub-put-all-later
-sub-put-all-later c = search needs
-
-part-put-all-later-start : tie.Need-part-put-all-later-start
-part-put-all-later-start c = search needs
-
-part-put-all-later-end : tie.Need-part-put-all-later-end
-part-put-all-later-end c = search needs
-
 put-all-later-requires : tie.Need-put-all-later-requires
 put-all-later-requires c κs =
     let p5 = c .before .before .before .before .before in
     let p9 = c .before .before .before .before .before .before .before .before .before in
     (omega (arith, p5 .record-blocks .ensures .0, few-blocks (p9 .args .n) (p9 .pre .1)), omega (arith, p5 .record-blocks .ensures .0), tail-room (c .before .before .before .put-heading .last .1 .1 .0 ++ drop blockBytes (p9 .args .out .now)) blockBytes (blockBytes * p5 .record-blocks .result) (omega (arith, p5 .record-blocks .ensures .0, few-blocks (p9 .args .n) (p9 .pre .1))))
-
-add-result : tie.Need-add-result
-add-result c = search needs
-
-mul-result : tie.Need-mul-result
-mul-result c = search needs
-
-cast-result : tie.Need-cast-result
-cast-result c = search needs
-
-same-length : tie.Need-same-length
-same-length c = search needs
 
 returns : tie.Need-returns
 returns c =
@@ -71,17 +35,17 @@ pub write-sheet-spec : {M : Type 1} → statement M
 write-sheet-spec =
     tie.close
     (tie.spec
-    record-blocks-requires
-    sub-put-heading
-    part-put-heading-start
-    part-put-heading-end
-    put-heading-requires
-    sub-put-all-later
-    part-put-all-later-start
-    part-put-all-later-end
+    (λ c κs. search needs)
+    (λ c. search needs)
+    (λ c. search needs)
+    (λ c. search needs)
+    (λ c κs. search needs)
+    (λ c. search needs)
+    (λ c. search needs)
+    (λ c. search needs)
     put-all-later-requires
-    add-result
-    mul-result
-    cast-result
-    same-length
+    (λ c. search needs)
+    (λ c. search needs)
+    (λ c. search needs)
+    (λ c. search needs)
     returns)

@@ -7,44 +7,14 @@ use borrow.Author.Needs.{needs}
 use Rattle.sheet_writer.proofs.writer.put_head.Statement.{statement}
 use Rattle.sheet_writer.proofs.writer.put_head.Tie as tie
 
-slice-write-out : tie.Need-slice-write-out
-slice-write-out c = search needs
-
-slice-write-out-2 : tie.Need-slice-write-out-2
-slice-write-out-2 c = search needs
-
-cast-out : tie.Need-cast-out
-cast-out c = search needs
-
-slice-write-out-3 : tie.Need-slice-write-out-3
-slice-write-out-3 c = search needs
-
-cast-out-2 : tie.Need-cast-out-2
-cast-out-2 c = search needs
-
-slice-write-out-4 : tie.Need-slice-write-out-4
-slice-write-out-4 c = search needs
-
-cast-out-3 : tie.Need-cast-out-3
-cast-out-3 c = search needs
-
 slice-write-out-5 : tie.Need-slice-write-out-5
 slice-write-out-5 c = simp length-set (omega arith)
-
-cast-out-4 : tie.Need-cast-out-4
-cast-out-4 c = search needs
 
 slice-write-out-6 : tie.Need-slice-write-out-6
 slice-write-out-6 c = simp length-set (omega arith)
 
-cast-out-5 : tie.Need-cast-out-5
-cast-out-5 c = search needs
-
 slice-write-out-7 : tie.Need-slice-write-out-7
 slice-write-out-7 c = simp length-set (omega arith)
-
-cast-out-6 : tie.Need-cast-out-6
-cast-out-6 c = search needs
 
 slice-write-out-8 : tie.Need-slice-write-out-8
 slice-write-out-8 c = simp length-set (omega arith)
@@ -73,19 +43,19 @@ pub put-head-spec : {M : Type 1} → statement M
 put-head-spec =
     tie.close
     (tie.spec
-    slice-write-out
-    slice-write-out-2
-    cast-out
-    slice-write-out-3
-    cast-out-2
-    slice-write-out-4
-    cast-out-3
+    (λ c. search needs)
+    (λ c. search needs)
+    (λ c. search needs)
+    (λ c. search needs)
+    (λ c. search needs)
+    (λ c. search needs)
+    (λ c. search needs)
     slice-write-out-5
-    cast-out-4
+    (λ c. search needs)
     slice-write-out-6
-    cast-out-5
+    (λ c. search needs)
     slice-write-out-7
-    cast-out-6
+    (λ c. search needs)
     slice-write-out-8
     slice-write-out-9
     slice-write-out-10

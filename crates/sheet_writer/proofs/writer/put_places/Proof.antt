@@ -20,17 +20,8 @@ abbrev μ-loop : tie.MeasureT-loop
 loop-holds : tie.Need-loop-holds Inv-loop μ-loop
 loop-holds c = copied-none _ 0 listPlaces _ (c .pre)
 
-array-read-out : tie.Need-array-read-out Inv-loop μ-loop
-array-read-out c = search needs
-
 slice-write-out : tie.Need-slice-write-out Inv-loop μ-loop
 slice-write-out c = omega (arith, c .before .loop .inv .whole)
-
-add-i : tie.Need-add-i Inv-loop μ-loop
-add-i c = search needs
-
-loop-less : tie.Need-loop-less Inv-loop μ-loop
-loop-less c = search needs
 
 loop-again : tie.Need-loop-again Inv-loop μ-loop
 loop-again c = rw (zero-add (c .before .loop .i)) at (copied-more (c .before .before .args .t2) 0 listPlaces (c .before .loop .out) (c .before .loop .i) (search needs) (c .before .loop .inv))
@@ -50,10 +41,10 @@ put-places-spec =
     Inv-loop
     μ-loop
     loop-holds
-    array-read-out
+    (λ c. search needs)
     slice-write-out
-    add-i
-    loop-less
+    (λ c. search needs)
+    (λ c. search needs)
     loop-again
     same-length
     returns)

@@ -20,9 +20,6 @@ abbrev μ-loop : tie.MeasureT-loop
 loop-holds : tie.Need-loop-holds Inv-loop μ-loop
 loop-holds c = (search needs, search needs, refl, λ code size m. uppers-begin code _ _ size)
 
-sub-k : tie.Need-sub-k Inv-loop μ-loop
-sub-k c = search needs
-
 sub-usize-to-u16 : tie.Need-sub-usize-to-u16 Inv-loop μ-loop
 sub-usize-to-u16 c = omega (arith, c .before .loop .inv .1 .low, c .before .loop .inv .1 .high)
 
@@ -34,15 +31,6 @@ mul-uppers c = omega (arith, c .before .before .loop .inv .2)
 
 slice-write-uppers : tie.Need-slice-write-uppers Inv-loop μ-loop
 slice-write-uppers c = omega (arith, c .before .before .loop .inv .2)
-
-shared-slice-read-pick : tie.Need-shared-slice-read-pick Inv-loop μ-loop
-shared-slice-read-pick c = search needs
-
-pick-requires : tie.Need-pick-requires Inv-loop μ-loop
-pick-requires c κs = search needs
-
-loop-less : tie.Need-loop-less Inv-loop μ-loop
-loop-less c = search needs
 
 loop-again : tie.Need-loop-again Inv-loop μ-loop
 loop-again c =
@@ -71,14 +59,14 @@ find-uppers-spec =
     Inv-loop
     μ-loop
     loop-holds
-    sub-k
+    (λ c. search needs)
     sub-usize-to-u16
     usize-to-u16-requires
     mul-uppers
     slice-write-uppers
-    shared-slice-read-pick
-    pick-requires
-    loop-less
+    (λ c. search needs)
+    (λ c κs. search needs)
+    (λ c. search needs)
     loop-again
     same-length
     returns)

@@ -5,21 +5,6 @@ use borrow.Author.Needs.{needs}
 use Rattle.stackless_control_flow_graph.proofs.blocks.list_lower.Statement.{statement}
 use Rattle.stackless_control_flow_graph.proofs.blocks.list_lower.Tie as tie
 
-usize-to-u16-requires : tie.Need-usize-to-u16-requires
-usize-to-u16-requires c κs = search needs
-
-mul-lowers : tie.Need-mul-lowers
-mul-lowers c = search needs
-
-slice-write-lowers : tie.Need-slice-write-lowers
-slice-write-lowers c = search needs
-
-add-result : tie.Need-add-result
-add-result c = search needs
-
-same-length : tie.Need-same-length
-same-length c = search needs
-
 returns : tie.Need-returns
 returns c = rw (c .before .if1 .taken, c .usize-to-u16 .ensures) (listing-one _ _ _ (search needs))
 
@@ -30,10 +15,10 @@ pub list-lower-spec : {M : Type 1} → statement M
 list-lower-spec =
     tie.close
     (tie.spec
-    usize-to-u16-requires
-    mul-lowers
-    slice-write-lowers
-    add-result
-    same-length
+    (λ c κs. search needs)
+    (λ c. search needs)
+    (λ c. search needs)
+    (λ c. search needs)
+    (λ c. search needs)
     returns
     returns-2)

@@ -19,17 +19,8 @@ abbrev μ-loop : tie.MeasureT-loop
 loop-holds : tie.Need-loop-holds Inv-loop μ-loop
 loop-holds c = (search needs, refl, search needs, marked-none _)
 
-shared-slice-read-list-lower : tie.Need-shared-slice-read-list-lower Inv-loop μ-loop
-shared-slice-read-list-lower c = search needs
-
 list-lower-requires : tie.Need-list-lower-requires Inv-loop μ-loop
 list-lower-requires c κs = (omega (arith, c .before .before .before .loop .inv .1), omega arith)
-
-add-k : tie.Need-add-k Inv-loop μ-loop
-add-k c = search needs
-
-loop-less : tie.Need-loop-less Inv-loop μ-loop
-loop-less c = search needs
 
 loop-again : tie.Need-loop-again Inv-loop μ-loop
 loop-again c =
@@ -56,10 +47,10 @@ list-lowers-spec =
     Inv-loop
     μ-loop
     loop-holds
-    shared-slice-read-list-lower
+    (λ c. search needs)
     list-lower-requires
-    add-k
-    loop-less
+    (λ c. search needs)
+    (λ c. search needs)
     loop-again
     same-length
     returns)

@@ -1,9 +1,9 @@
 -- `keys::number_blocks` meets its contract: at each turn, the blocks passed have taken their keys. Assumes nothing.
-use mathlib.Core.Path.{_≡_, refl, _∙_, ap}
-use Prim.Native.Nat.{_≤_, _-_, ℕ}
-use lib.ListN.{length, take, getD}
+use mathlib.Core.Path.{_≡_, refl, _∙_}
+use Prim.Native.Nat.{_≤_, _-_}
+use lib.ListN.{length, take}
 use Rattle.base.specs.Lists.{gather}
-use Rattle.stackless_control_flow_graph.specs.KeyLaws.{keys-begin, keys-more, near}
+use Rattle.stackless_control_flow_graph.specs.KeyLaws.{keys-begin, keys-more, block-lower, block-near}
 use Rattle.stackless_control_flow_graph.specs.Arrays.{Gives, takers}
 use borrow.Author.Needs.{needs}
 use native.Mathlib.Omega.{arith}
@@ -19,59 +19,32 @@ abbrev μ-loop : tie.MeasureT-loop
 loop-holds : tie.Need-loop-holds Inv-loop μ-loop
 loop-holds c = (search needs, refl, refl, keys-begin (c .before .before .before .before .before .args .keys .now) (c .before .before .before .before .before .args .lower-of-key .now) (c .before .before .before .before .before .args .goes .now) (c .before .before .before .before .before .args .uppers .now) (c .before .before .before .before .before .args .lowers .now) (c .before .before .before .before .before .pre .1))
 
-mul-u16-to-usize : tie.Need-mul-u16-to-usize Inv-loop μ-loop
-mul-u16-to-usize c = search needs
-
-shared-slice-read-u16-to-usize : tie.Need-shared-slice-read-u16-to-usize Inv-loop μ-loop
-shared-slice-read-u16-to-usize c = search needs
-
-u16-to-usize-requires : tie.Need-u16-to-usize-requires Inv-loop μ-loop
-u16-to-usize-requires c κs = search needs
-
--- the block's lower and upper
-lower-is : (c : tie.After-u16-to-usize Inv-loop μ-loop) → c .u16-to-usize .result ≡ getD (c .before .before .before .before .before .before .before .before .before .args .lowers .now) (c .before .before .before .loop .b) 0
-lower-is c = c .u16-to-usize .ensures .0
-
-upper-is : (c : tie.After-u16-to-usize2 Inv-loop μ-loop) → c .u16-to-usize2 .result ≡ getD (c .before .before .before .before .before .before .before .before .before .before .before .args .uppers .now) (getD (c .before .before .before .before .before .before .before .before .before .before .before .args .lowers .now) (c .before .before .before .before .before .loop .b) 0) 0
-upper-is c = c .u16-to-usize2 .ensures .0 ∙ ap (λ (x : ℕ). getD (c .before .before .before .before .before .before .before .before .before .before .before .args .uppers .now) x 0) (lower-is (c .before .before))
-
-mul-u16-to-usize-2 : tie.Need-mul-u16-to-usize-2 Inv-loop μ-loop
-mul-u16-to-usize-2 c = omega (arith, lower-is c, c .before .before .before .before .before .before .before .before .before .pre .0 .lower (c .before .before .before .loop .b) (search needs))
-
-shared-slice-read-u16-to-usize-2 : tie.Need-shared-slice-read-u16-to-usize-2 Inv-loop μ-loop
-shared-slice-read-u16-to-usize-2 c = omega (arith, lower-is (c .before), c .before .before .before .before .before .before .before .before .before .before .pre .0 .upper (c .before .before .before .before .loop .b) (search needs))
-
-u16-to-usize-requires-2 : tie.Need-u16-to-usize-requires-2 Inv-loop μ-loop
-u16-to-usize-requires-2 c κs = search needs
+block-at-requires : tie.Need-block-at-requires Inv-loop μ-loop
+block-at-requires c κs =
+    let arrays = c .before .before .before .before .before .before .before .pre .0 in
+    (omega (arith, arrays .blocks), arrays .upper (c .before .loop .b) (search needs))
 
 number-block-requires : tie.Need-number-block-requires Inv-loop μ-loop
 number-block-requires c κs =
-    let i = c .before .before .before .before .before .before .before .loop .inv in
-    let n = length (c .before .before .before .before .before .before .before .before .before .before .before .before .before .args .keys .now) in
-    let b = c .before .before .before .before .before .before .before .loop .b in
-    let r = c .before .before .before .before .before .before .before .before .before .before .before .before .before .pre .0 in (
+    let i = c .before .before .before .before .loop .inv in
+    let p = c .before .before .before .before .before .before .before .before .before .before .pre in
+    let k = c .before .before .block-at .ensures in (
       i .3 .keys,
-      rw (i .1) (near n (c .before .before .before .before .before .before .before .before .before .before .before .before .before .args .goes .now) (c .before .before .before .before .u16-to-usize .result) (c .before .before .u16-to-usize2 .result) (omega (arith, lower-is (c .before .before .before .before), r .lower b (search needs))) (rw (upper-is (c .before .before)) (r .next b (search needs)))),
-      omega (arith, upper-is (c .before .before), r .places b (search needs)),
+      omega (arith, i .1, block-lower (p .0) (search needs) k),
+      rw (i .1) (block-near (p .0) (search needs) k),
       omega (arith, i .1, i .2),
       omega (arith, i .1),
     )
 
-add-b : tie.Need-add-b Inv-loop μ-loop
-add-b c = search needs
-
-loop-less : tie.Need-loop-less Inv-loop μ-loop
-loop-less c = search needs
-
 loop-again : tie.Need-loop-again Inv-loop μ-loop
 loop-again c =
     let g = c .before .before .before .before .number-block in
-    let i = c .before .before .before .before .before .before .before .before .before .before .before .before .loop .inv in
-    let a = c .before .before .before .before .before .before .before .before .before .before .before .before .before .before .before .before .before .before .args in (
+    let i = c .before .before .before .before .before .before .before .before .before .loop .inv in
+    let a = c .before .before .before .before .before .before .before .before .before .before .before .before .before .before .before .args in (
       search needs,
       g .kept .1 .1 .1 .1 .0 ∙ i .1,
       g .kept .1 .1 .1 .1 .1 .0 ∙ i .2,
-      keys-more (a .goes .now) (a .uppers .now) (a .lowers .now) (c .before .before .before .before .before .before .before .before .before .before .before .before .loop .b) (c .before .before .before .before .before .before .before .before .before .u16-to-usize .result) (c .before .before .before .before .before .before .before .u16-to-usize2 .result) (omega (arith, c .before .before .before .before .before .before .before .before .before .before .before .before .before .before .before .before .before .before .pre .0 .blocks)) (c .before .before .before .before .before .before .before .before .before .u16-to-usize .ensures .0) (c .before .before .before .before .before .before .before .u16-to-usize2 .ensures .0) (i .3) (g .ensures),
+      keys-more (a .goes .now) (a .uppers .now) (a .lowers .now) (c .before .before .before .before .before .before .before .before .before .loop .b) _ _ (omega (arith, c .before .before .before .before .before .before .before .before .before .before .before .before .before .before .before .pre .0 .blocks)) (c .before .before .before .before .before .before .before .block-at .ensures) (i .3) (g .ensures),
     )
 
 same-length : tie.Need-same-length Inv-loop μ-loop
@@ -92,15 +65,10 @@ number-blocks-spec =
     Inv-loop
     μ-loop
     loop-holds
-    mul-u16-to-usize
-    shared-slice-read-u16-to-usize
-    u16-to-usize-requires
-    mul-u16-to-usize-2
-    shared-slice-read-u16-to-usize-2
-    u16-to-usize-requires-2
+    block-at-requires
     number-block-requires
-    add-b
-    loop-less
+    (λ c. search needs)
+    (λ c. search needs)
     loop-again
     same-length
     same-length-2

@@ -1,5 +1,5 @@
 -- `keys::spread_keys` meets its contract: at each turn, the offsets passed have the keys of their blocks. Assumes nothing.
-use mathlib.Core.Path.{_≡_, refl, ap}
+use mathlib.Core.Path.{_≡_, refl}
 use mathlib.Core.List.{List}
 use Prim.Native.Nat.{ℕ, _-_, _≤_, _<_}
 use lib.ListN.{getD, length, length-set}
@@ -28,27 +28,6 @@ abbrev μ-loop : tie.MeasureT-loop
 loop-holds : tie.Need-loop-holds Inv-loop μ-loop
 loop-holds c = record { within = omega arith; kept = refl; spread = λ code sound size numbered. spread-begin code sound _ numbered }
 
-mul-key-or : tie.Need-mul-key-or Inv-loop μ-loop
-mul-key-or c = search needs
-
-slice-read-key-or : tie.Need-slice-read-key-or Inv-loop μ-loop
-slice-read-key-or c = search needs
-
-key-or-requires : tie.Need-key-or-requires Inv-loop μ-loop
-key-or-requires c κs = search needs
-
-mul-keys : tie.Need-mul-keys Inv-loop μ-loop
-mul-keys c = search needs
-
-slice-write-keys : tie.Need-slice-write-keys Inv-loop μ-loop
-slice-write-keys c = search needs
-
-add-k : tie.Need-add-k Inv-loop μ-loop
-add-k c = search needs
-
-loop-less : tie.Need-loop-less Inv-loop μ-loop
-loop-less c = search needs
-
 loop-again : tie.Need-loop-again Inv-loop μ-loop
 loop-again c =
     let i = c .before .before .before .loop .inv in
@@ -73,13 +52,13 @@ spread-keys-spec =
     Inv-loop
     μ-loop
     loop-holds
-    mul-key-or
-    slice-read-key-or
-    key-or-requires
-    mul-keys
-    slice-write-keys
-    add-k
-    loop-less
+    (λ c. search needs)
+    (λ c. search needs)
+    (λ c κs. search needs)
+    (λ c. search needs)
+    (λ c. search needs)
+    (λ c. search needs)
+    (λ c. search needs)
     loop-again
     same-length
     returns)

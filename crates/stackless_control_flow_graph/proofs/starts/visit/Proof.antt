@@ -3,7 +3,7 @@ use mathlib.Core.List.{List·Memᴰ·cases-cons}
 use mathlib.Core.Logic.{⊎-elim}
 use Rattle.sheet.specs.Layout.{codeOf}
 use Rattle.stackless_bytecode.specs.Successors.{successors}
-use Rattle.stackless_control_flow_graph.specs.Arrays.{listOf}
+use Rattle.stackless_control_flow_graph.specs.Arrays.{offsetsOf}
 use Rattle.stackless_bytecode.specs.SlotLaws.{LabelsBelow}
 use mathlib.Core.Path.{_≡_, sym, _∙_}
 use Rattle.sheet.specs.Shaped.{record-inside}
@@ -16,44 +16,14 @@ use Rattle.stackless_control_flow_graph.proofs.starts.visit.Tie as tie
 instruction-at-requires : tie.Need-instruction-at-requires
 instruction-at-requires c κs = (record-inside (checked-shaped (c .before .before .before .before .pre .0)) _ (search needs), omega (arith, checked-shaped (c .before .before .before .before .pre .0) .few))
 
-mul-at : tie.Need-mul-at
-mul-at c = search needs
-
-add-next : tie.Need-add-next
-add-next c = search needs
-
-mul-by-kind : tie.Need-mul-by-kind
-mul-by-kind c = search needs
-
-shared-slice-read-by-kind : tie.Need-shared-slice-read-by-kind
-shared-slice-read-by-kind c = search needs
-
-add-by-kind : tie.Need-add-by-kind
-add-by-kind c = search needs
-
-mul-by-kind-2 : tie.Need-mul-by-kind-2
-mul-by-kind-2 c = search needs
-
-shared-slice-read-by-kind-2 : tie.Need-shared-slice-read-by-kind-2
-shared-slice-read-by-kind-2 c = search needs
-
 usize-to-u16-requires : tie.Need-usize-to-u16-requires
 usize-to-u16-requires c κs = omega (arith, checked-shaped (c .before .before .before .before .before .before .before .pre .0) .few)
-
-by-kind-requires : tie.Need-by-kind-requires
-by-kind-requires c κs = search needs
-
-put-two-requires : tie.Need-put-two-requires
-put-two-requires c κs = search needs
-
-is-branch-requires : tie.Need-is-branch-requires
-is-branch-requires c κs = search needs
 
 -- the record that is read has labels of 16 bits
 below : (c : tie.After-instruction-at) → LabelsBelow (c .instruction-at .result)
 below c = record { one = search needs; two = search needs }
 
-succs-are : (c : tie.After-by-kind) → listOf (c .by-kind .result) ≡ successors (codeOf (c .before .before .before .before .before .before .before .before .before .args .sheet .now)) (c .before .before .before .before .before .before .before .before .before .args .k)
+succs-are : (c : tie.After-by-kind) → offsetsOf (c .by-kind .result) ≡ successors (codeOf (c .before .before .before .before .before .before .before .before .before .args .sheet .now)) (c .before .before .before .before .before .before .before .before .before .args .k)
 succs-are c =
     let c4 = c .before .before .before .before in
     let c9 = c4 .before .before .before .before .before in
@@ -64,25 +34,16 @@ mark-starts-requires c κs =
     let w = next-within (c .before .before .before .before .before .before .before .before .before .before .before .before .before .before .before .before .pre .0) (c .before .before .before .before .before .before .before .before .before .before .before .before .before .before .before .before .args .k) (c .before .before .before .before .before .before .before .before .before .before .before .before .before .before .before .before .pre .1) (c .before .before .before .before .before .before .before .before .before .before .before .instruction-at .result) (c .before .before .before .before .before .before .before .before .before .before .before .instruction-at .ensures) (below (c .before .before .before .before .before .before .before .before .before .before .before)) (c .before .before .before .before .before .before .before .by-kind .result) (succs-are (c .before .before .before .before .before .before .before)) in
     record { each = λ x i. ⊎-elim (λ e. omega arith) (λ t. omega (arith, w .each x t)) (List·Memᴰ·cases-cons i) }
 
-same-length : tie.Need-same-length
-same-length c = search needs
-
-same-length-2 : tie.Need-same-length-2
-same-length-2 c = search needs
-
 returns : tie.Need-returns
 returns c =
     rw (c .before .before .before .before .before .before .before .before .put-two .ensures, c .before .before .mark-starts .ensures)
     (visit-branch (c .before .before .before .before .before .before .before .before .before .before .before .before .before .before .before .before .before .before .before .pre .0) (c .before .before .before .before .before .before .before .before .before .before .before .before .before .before .before .before .before .before .before .args .k) (c .before .before .before .before .before .before .before .before .before .before .before .before .before .before .before .before .before .before .before .pre .1) (c .before .before .before .before .before .before .before .before .before .before .before .before .before .before .instruction-at .result) (c .before .before .before .before .before .before .before .before .before .before .before .before .before .before .instruction-at .ensures) (below (c .before .before .before .before .before .before .before .before .before .before .before .before .before .before)) _ _ (c .before .before .before .before .before .before .before .before .before .before .by-kind .result) (search needs) (search needs) (succs-are (c .before .before .before .before .before .before .before .before .before .before))
     (sym (c .before .before .before .before .before .is-branch .ensures) ∙ c .before .before .before .before .if1 .taken))
 
-same-length-3 : tie.Need-same-length-3
-same-length-3 c = search needs
-
 returns-2 : tie.Need-returns-2
 returns-2 c =
     rw (c .before .before .before .before .put-two .ensures)
-    (visit-quiet (c .before .before .before .before .before .before .before .before .before .before .before .before .before .before .before .pre .0) (c .before .before .before .before .before .before .before .before .before .before .before .before .before .before .before .args .k) (c .before .before .before .before .before .before .before .before .before .before .before .before .before .before .before .pre .1) (c .before .before .before .before .before .before .before .before .before .before .instruction-at .result) (c .before .before .before .before .before .before .before .before .before .before .instruction-at .ensures) (below (c .before .before .before .before .before .before .before .before .before .before)) _ _ (c .before .before .before .before .before .before .by-kind .result) (search needs) (succs-are (c .before .before .before .before .before .before))
+    (visit-quiet (c .before .before .before .before .before .before .before .before .before .before .before .before .before .before .before .pre .0) (c .before .before .before .before .before .before .before .before .before .before .before .before .before .before .before .args .k) (c .before .before .before .before .before .before .before .before .before .before .before .before .before .before .before .pre .1) (c .before .before .before .before .before .before .before .before .before .before .instruction-at .result) (c .before .before .before .before .before .before .before .before .before .before .instruction-at .ensures) (below (c .before .before .before .before .before .before .before .before .before .before)) _ _ (c .before .before .before .before .before .before .by-kind .result) (c .before .before .before .before .before .before .before .before .before .before .before .before .before .before .before .pre .2) (succs-are (c .before .before .before .before .before .before))
     (sym (c .before .is-branch .ensures) ∙ c .if1 .left))
 
 pub visit-spec : {M : Type 1} → statement M
@@ -90,20 +51,20 @@ visit-spec =
     tie.close
     (tie.spec
     instruction-at-requires
-    mul-at
-    add-next
-    mul-by-kind
-    shared-slice-read-by-kind
-    add-by-kind
-    mul-by-kind-2
-    shared-slice-read-by-kind-2
+    (λ c. search needs)
+    (λ c. search needs)
+    (λ c. search needs)
+    (λ c. search needs)
+    (λ c. search needs)
+    (λ c. search needs)
+    (λ c. search needs)
     usize-to-u16-requires
-    by-kind-requires
-    put-two-requires
-    is-branch-requires
+    (λ c κs. search needs)
+    (λ c κs. search needs)
+    (λ c κs. search needs)
     mark-starts-requires
-    same-length
-    same-length-2
+    (λ c. search needs)
+    (λ c. search needs)
     returns
-    same-length-3
+    (λ c. search needs)
     returns-2)

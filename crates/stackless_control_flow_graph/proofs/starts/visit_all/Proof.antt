@@ -17,20 +17,11 @@ Inv-loop sheet n targets goes₀ marks₀ k₀ goes marks k = (k ≤ n) × (leng
 abbrev μ-loop : tie.MeasureT-loop
 μ-loop sheet n targets goes₀ marks₀ k₀ goes marks k = n - k
 
-slice-write-marks : tie.Need-slice-write-marks Inv-loop μ-loop
-slice-write-marks c = search needs
-
 loop-holds : tie.Need-loop-holds Inv-loop μ-loop
 loop-holds c = (search needs, refl, refl, record { each = λ j h. absurd (omega arith) }, marks-begin (c .before .before .before .before .args .sheet .now) (c .before .before .before .before .args .marks .now) (omega arith) (c .before .before .before .before .pre .3))
 
 visit-requires : tie.Need-visit-requires Inv-loop μ-loop
 visit-requires c κs = (c .before .before .before .before .before .before .before .before .pre .0, search needs, omega (arith, c .before .before .before .loop .inv .1), omega (arith, c .before .before .before .loop .inv .2, length-set (c .before .before .before .before .before .before .before .before .args .marks .now) 0 1))
-
-add-k : tie.Need-add-k Inv-loop μ-loop
-add-k c = search needs
-
-loop-less : tie.Need-loop-less Inv-loop μ-loop
-loop-less c = search needs
 
 loop-again : tie.Need-loop-again Inv-loop μ-loop
 loop-again c =
@@ -56,11 +47,11 @@ visit-all-spec =
     (tie.spec
     Inv-loop
     μ-loop
-    slice-write-marks
+    (λ c. search needs)
     loop-holds
     visit-requires
-    add-k
-    loop-less
+    (λ c. search needs)
+    (λ c. search needs)
     loop-again
     same-length
     same-length-2

@@ -9,17 +9,11 @@ use borrow.Author.Needs.{needs}
 use Rattle.livevar_transform.proofs.plan.Next.past.Statement.{statement}
 use Rattle.livevar_transform.proofs.plan.Next.past.Tie as tie
 
-is-empty-requires : tie.Need-is-empty-requires
-is-empty-requires c κs = search needs
-
 returns : tie.Need-returns
 returns c = past-none _ _ (eqb-true _ 0 (sym (c .before .is-empty .ensures) ∙ c .if1 .taken))
 
 add-t4 : tie.Need-add-t4
 add-t4 c = omega (arith, c .before .before .before .pre .label)
-
-ones-requires : tie.Need-ones-requires
-ones-requires c κs = search needs
 
 add-t6 : tie.Need-add-t6
 add-t6 c =
@@ -36,4 +30,4 @@ returns-2 c = let m = mask-small (c .before .before .before .before .before .arg
 
 pub past-spec : {M : Type 1} → statement M
 past-spec =
-    tie.close (tie.spec is-empty-requires returns add-t4 ones-requires add-t6 add-t7 returns-2)
+    tie.close (tie.spec (λ c κs. search needs) returns add-t4 (λ c κs. search needs) add-t6 add-t7 returns-2)

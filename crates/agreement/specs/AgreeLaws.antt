@@ -1,0 +1,36 @@
+-- A call's contract and a comparison together say whether the call answers as it is stored. Assumes nothing.
+use Prim.Native.Nat.{ℕ, _≤_}
+use native.Mathlib.Omega.{arith}
+use mathlib.Core.Path.{_≡_, sym, ap, _∙_}
+use mathlib.Core.Bool.{Bool, true, false}
+use mathlib.Core.List.{List, _++_}
+use lib.Dec.{eqb}
+use lib.ListN.{length, take, drop, length-take}
+use lib.Seq.{length-take-le}
+use borrow.Author.Tests.{eqb-true, eq-eqb}
+use Rattle.base.specs.Refusals.{Reply, resultOf, outputAfter}
+use Rattle.c_api.specs.Packed.{packed}
+use Rattle.agreement.specs.Agree.{Says, SameResult, Agrees, after}
+
+-- the front of a list, as long as it is asked
+pub front-long : (n long : ℕ) (xs : List ℕ) → n ≤ long → length xs ≡ long → n ≡ length (take n xs)
+front-long n long xs h k = sym (length-take n xs ∙ (omega arith))
+
+pub never : {A : Type 0} → false ≡ true → A
+never e = let z : _≡_ {A = ℕ} 0 1 = cc in absurd (omega arith)
+
+-- a call replies with `got`, and the results are compared
+pub answered : (r : Reply) (got result : ℕ) → got ≡ packed (resultOf r) → Says (eqb got result) (SameResult r result)
+answered r got result is = (λ t. sym is ∙ eqb-true got result t, λ a. eq-eqb got result (is ∙ a))
+
+-- a call is lent the front of `out`, replies with `got` and leaves `last` there; b compares both
+pub agreed : (f : ℕ → Reply) (lent result got : ℕ) (out last want : List ℕ) (b : Bool) → lent ≤ length out
+    → got ≡ packed (resultOf (f (length (take lent out)))) → last ≡ outputAfter (f (length (take lent out))) (take lent out)
+    → Says b ((got ≡ result) × (last ++ drop lent out ≡ want))
+    → Says b (Agrees (f lent) lent result out want)
+agreed f lent result got out last want b h is kept says =
+    let e : length (take lent out) ≡ lent = length-take-le lent out h in
+    let a : packed (resultOf (f lent)) ≡ got = ap (λ (n : ℕ). packed (resultOf (f n))) (sym e) ∙ sym is in
+    let o : after (f lent) lent out ≡ last ++ drop lent out =
+    ap (λ (n : ℕ). outputAfter (f n) (take lent out) ++ drop lent out) (sym e) ∙ ap (λ (l : List ℕ). l ++ drop lent out) (sym kept) in
+    (λ t. record { answer = a ∙ says .0 t .0; output = o ∙ says .0 t .1 }, λ w. says .1 (sym a ∙ w .answer, sym o ∙ w .output))
