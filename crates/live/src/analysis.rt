@@ -19,11 +19,11 @@ use base::PAIR_BYTES;
 use base::Refusal;
 use base::SET_WORDS;
 use base::SLOTS;
-use livevar_analysis::output::write_info;
 use livevar_analysis::rules::RULE_SETS;
 use livevar_analysis::rules::decode_rules;
 use livevar_engine::engine::NODES;
 use livevar_engine::engine::solve;
+use livevar_output::output::write_info;
 use sheet::reader::u16_at;
 use sheet_checks::check::check_into;
 

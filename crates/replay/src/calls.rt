@@ -1,8 +1,6 @@
 // A stored case, asked of the call that it names. Assumes nothing.
 ghost use Prim.Native.Nat.{_+_, _*_, _%_, _/_, _≤_};
 ghost use lib.ListN.{length};
-use crate::packed::FILL;
-use crate::packed::ROOM;
 use agreement::StoredCase;
 use agreement::check_agrees;
 use agreement::conditional_agrees;
@@ -12,6 +10,9 @@ use agreement::in_use_agrees;
 use agreement::live_agrees;
 use agreement::rewrite_agrees;
 use sheet::reader::u32_at;
+use stored_cases::packed::FILL;
+use stored_cases::packed::ROOM;
+use stored_cases::tally::Came;
 
 // A lent 16-bit number before a call.
 const FILL_NUMBER: u16 = 42405;
@@ -30,13 +31,6 @@ const NO_GRAPH: usize = TRIPLE_NUMBERS + 1;
 
 // The longest graph.
 pub const GRAPH_BYTES: usize = TRIPLES_AT + 4 * TRIPLE_NUMBERS;
-
-// What came of a case: the call answered as it is stored; otherwise; or the case cannot be asked.
-pub enum Came {
-    Same,
-    Other,
-    Damaged,
-}
 
 fn compared(agrees: bool) -> Came {
     if agrees { Came::Same } else { Came::Other }

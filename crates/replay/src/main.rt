@@ -2,28 +2,25 @@
 ghost use mathlib.Core.Path.{_≡_};
 ghost use lib.ListN.{length};
 
-mod packed; // packed.rt: packed strings, and the fill behind what is written
-mod stored; // stored.rt: the head and the rows of the file
 mod calls; // calls.rt: each call beside a stored answer
-mod tally; // tally.rt: counts, and what is printed
 
-use crate::calls::Came;
 use crate::calls::GRAPH_BYTES;
 use crate::calls::ask;
-use crate::packed::ROOM;
-use crate::packed::TOO_LONG;
-use crate::packed::fill_behind;
-use crate::packed::unpack;
-use crate::stored::HEAD_BYTES;
-use crate::stored::ROW_BYTES;
-use crate::stored::Row;
-use crate::stored::cases_in;
-use crate::stored::row_of;
-use crate::tally::COUNTS;
-use crate::tally::count;
-use crate::tally::print_counts;
-use crate::tally::say;
 use libc::STDIN_FILENO;
+use stored_cases::packed::ROOM;
+use stored_cases::packed::TOO_LONG;
+use stored_cases::packed::fill_behind;
+use stored_cases::packed::unpack;
+use stored_cases::stored::HEAD_BYTES;
+use stored_cases::stored::ROW_BYTES;
+use stored_cases::stored::Row;
+use stored_cases::stored::cases_in;
+use stored_cases::stored::row_of;
+use stored_cases::tally::COUNTS;
+use stored_cases::tally::Came;
+use stored_cases::tally::count;
+use stored_cases::tally::print_counts;
+use stored_cases::tally::say;
 
 // The longest file.
 const FILE_BYTES: usize = 2097152;

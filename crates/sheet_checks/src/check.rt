@@ -22,8 +22,8 @@ use base::Found;
 use base::MAX_INSTRUCTIONS;
 use base::Refusal;
 use base::SLOTS;
-use sheet::form::check_form;
 use sheet::reader::u16_at;
+use sheet_form::form::check_form;
 
 fn check_locals(s: &[u8], n: usize) -> Checked
     requires { ⌜ Shaped (now s) n ⌝ }

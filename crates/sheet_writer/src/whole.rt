@@ -11,8 +11,8 @@ ghost use Rattle.sheet_writer.specs.Written.{bodyBytes, gapBytes, Blocks
 use crate::writer::put_u16;
 use base::BLOCK_BYTES;
 use base::RECORDS_FROM;
-use sheet::blocks::record_blocks;
-use sheet::blocks::total;
+use sheet_form::blocks::record_blocks;
+use sheet_form::blocks::total;
 
 // The bytes of a block's records, and the zeros before them.
 pub const BODY_BYTES: usize = BLOCK_BYTES - RECORDS_FROM;

@@ -1,4 +1,4 @@
--- `replay::calls::agrees` meets its contract: true exactly where the results are equal, and the bytes. Assumes nothing.
+-- `agreement::agrees` meets its contract: true exactly where the results are equal, and the bytes. Assumes nothing.
 use borrow.Author.Needs.{needs}
 use Rattle.agreement.specs.AgreeLaws.{never}
 use Rattle.agreement.proofs.agrees.Statement.{statement}

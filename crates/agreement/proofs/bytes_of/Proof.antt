@@ -1,4 +1,4 @@
--- `replay::calls::bytes_of` meets its contract. The loop's invariant: the bytes of the numbers passed stand at the front. Assumes nothing.
+-- `agreement::bytes_of` meets its contract. The loop's invariant: the bytes of the numbers passed stand at the front. Assumes nothing.
 use Rattle.agreement.specs.PairLaws.{pairs-more, pairs-all, inside-set}
 use Rattle.base.specs.WriteLaws.{wrote}
 use Rattle.agreement.specs.Agree.{pairs}

@@ -1,4 +1,4 @@
--- `replay::calls::check_agrees` meets its contract: what the call ensures, and a comparison. Assumes nothing.
+-- `agreement::check_agrees` meets its contract: what the call ensures, and a comparison. Assumes nothing.
 use Rattle.c_api.specs.Packed.{checkReply}
 use Rattle.agreement.specs.AgreeLaws.{answered}
 use borrow.Author.Needs.{needs}

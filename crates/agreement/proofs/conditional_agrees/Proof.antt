@@ -1,4 +1,4 @@
--- `replay::calls::conditional_agrees` meets its contract: what the call ensures, and a comparison. Assumes nothing.
+-- `agreement::conditional_agrees` meets its contract: what the call ensures, and a comparison. Assumes nothing.
 use Rattle.borrow_analysis.specs.Borrows.{conditionalReply}
 use Rattle.borrow_analysis.specs.Graph.{graphInput}
 use Rattle.agreement.specs.AgreeLaws.{answered}

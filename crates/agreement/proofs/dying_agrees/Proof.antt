@@ -1,4 +1,4 @@
--- `replay::calls::dying_agrees` meets its contract: what the call ensures of the lent front, and a comparison. Assumes nothing.
+-- `agreement::dying_agrees` meets its contract: what the call ensures of the lent front, and a comparison. Assumes nothing.
 use Rattle.borrow_analysis.specs.Borrows.{dyingReply}
 use Rattle.borrow_analysis.specs.Graph.{graphInput}
 use lib.ListN.{length}

@@ -1,4 +1,4 @@
--- `replay::calls::flow_agrees` meets its contract: what the call ensures of the lent front, its bytes, and a comparison. Assumes nothing.
+-- `agreement::flow_agrees` meets its contract: what the call ensures of the lent front, its bytes, and a comparison. Assumes nothing.
 use Rattle.agreement.specs.PairLaws.{agreed-pairs}
 use Rattle.stackless_control_flow_graph.specs.Blocks.{flowReply}
 use lib.ListN.{length}

@@ -1,4 +1,4 @@
--- `replay::calls::in_use_agrees` meets its contract: what the call ensures, and a comparison. Assumes nothing.
+-- `agreement::in_use_agrees` meets its contract: what the call ensures, and a comparison. Assumes nothing.
 use Rattle.borrow_analysis.specs.Borrows.{inUseReply}
 use Rattle.borrow_analysis.specs.Graph.{graphInput}
 use Rattle.agreement.specs.AgreeLaws.{answered}

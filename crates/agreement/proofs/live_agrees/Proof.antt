@@ -1,4 +1,4 @@
--- `replay::calls::live_agrees` meets its contract: what the call ensures of the lent front, and a comparison. Assumes nothing.
+-- `agreement::live_agrees` meets its contract: what the call ensures of the lent front, and a comparison. Assumes nothing.
 use Rattle.livevar_analysis.specs.Analysis.{liveReply}
 use lib.ListN.{length}
 use Prim.Native.Nat.{ℕ}

@@ -1,4 +1,4 @@
--- `replay::calls::rewrite_agrees` meets its contract: what the call ensures of the lent front, and a comparison. Assumes nothing.
+-- `agreement::rewrite_agrees` meets its contract: what the call ensures of the lent front, and a comparison. Assumes nothing.
 use Rattle.livevar_transform.specs.Rewrite.{rewriteReply}
 use lib.ListN.{length}
 use Prim.Native.Nat.{ℕ}

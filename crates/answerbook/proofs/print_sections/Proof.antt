@@ -15,8 +15,9 @@ use Rattle.answerbook.proofs.print_sections.Tie as tie
 
 analyze-requires : tie.Need-analyze-requires
 analyze-requires c κs =
-    let p = c .before .before .before .before .pre in
-    (p, omega (arith, code-length (c .before .before .before .before .args .s .now), accepted-valid _ (p .accepted) .few, length-replicate {A = ℕ} (pairBytes * maxInstructions) 0))
+    let c4 = c .before .before .before .before in
+    let p = c4 .pre in
+    (p, omega (arith, code-length (c4 .args .s .now), accepted-valid _ (p .accepted) .few, length-replicate {A = ℕ} (pairBytes * maxInstructions) 0))
 
 slice-reshare-prefix-print : tie.Need-slice-reshare-prefix-print
 slice-reshare-prefix-print c = wrote-inside (c .before .before .put-code-section .ensures)
@@ -44,8 +45,9 @@ slice-aggregate-print-3 c = sym (length-take-le _ _ (wrote-inside (c .before .be
 
 put-rewritten-section-requires : tie.Need-put-rewritten-section-requires
 put-rewritten-section-requires c κs =
+    let c25 = c .before .before .before .before .before .before .before .before .before .before .before .before .before .before .before .before .before .before .before .before .before .before .before .before .before in
     let p = c .before .before .before .before .before .before .before .before .before .before .before .before .before .before .before .before .before .before .before .before .before .before .before .before .before .before .before .before .before .before .pre in
-    (p .accepted, asked p (c .before .before .before .before .before .before .before .before .before .before .before .before .before .before .before .before .before .before .before .before .before .before .before .before .before .analyze .ensures) (omega (arith, accepted-valid _ (p .accepted) .few, p .count, c .before .before .before .before .before .before .before .before .before .before .before .before .before .before .before .before .before .before .before .before .before .before .before .before .before .analyze .kept .1 .1 .1 .0)))
+    (p .accepted, asked p (c25 .analyze .ensures) (omega (arith, accepted-valid _ (p .accepted) .few, p .count, c25 .analyze .kept .1 .1 .1 .0)))
 
 slice-reshare-prefix-print-4 : tie.Need-slice-reshare-prefix-print-4
 slice-reshare-prefix-print-4 c = wrote-inside (c .before .before .put-rewritten-section .ensures)

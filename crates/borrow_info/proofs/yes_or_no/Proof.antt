@@ -1,4 +1,4 @@
--- `borrow_analysis::yes_or_no` meets its contract. Assumes nothing.
+-- `borrow_info::yes_or_no` meets its contract. Assumes nothing.
 use Rattle.borrow_info.proofs.yes_or_no.Statement.{statement}
 use Rattle.borrow_info.proofs.yes_or_no.Tie as tie
 

@@ -8,10 +8,14 @@ use Rattle.livelist.proofs.main.Statement.{statement}
 use Rattle.livelist.proofs.main.Tie as tie
 
 array-share-prefix-sheet : tie.Need-array-share-prefix-sheet
-array-share-prefix-sheet c = omega (arith, ap bytesRead (c .before .n .given .1), c .before .before .before .before .read-input .ensures, c .before .before .before .before .read-input .kept .0)
+array-share-prefix-sheet c =
+    let c4 = c .before .before .before .before in
+    omega (arith, ap bytesRead (c .before .n .given .1), c4 .read-input .ensures, c4 .read-input .kept .0)
 
 slice-aggregate-print : tie.Need-slice-aggregate-print
-slice-aggregate-print c = sym (length-take-le _ _ (omega (arith, ap bytesRead (c .before .before .n .given .1), c .before .before .before .before .before .read-input .ensures, c .before .before .before .before .before .read-input .kept .0)))
+slice-aggregate-print c =
+    let c5 = c .before .before .before .before .before in
+    sym (length-take-le _ _ (omega (arith, ap bytesRead (c .before .before .n .given .1), c5 .read-input .ensures, c5 .read-input .kept .0)))
 
 pub main-spec : {M : Type 1} → statement M
 main-spec =

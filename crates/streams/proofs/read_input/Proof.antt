@@ -20,9 +20,10 @@ add-done c = omega (arith, ap bytesRead (c .before .before .more .given .1), c .
 
 loop-again : tie.Need-loop-again Inv-loop μ-loop
 loop-again c =
+    let c6 = c .before .before .before .before .before .before in
     let l = c .before .before .before .before .before .before .before .before .before .loop in
-    let same = same-len-mid (l .done) (length (l .buf) - l .done) (l .buf) (c .before .before .before .before .before .before .read-some .last .0) (c .before .before .before .before .before .before .read-some .kept .0) in
-    (omega (arith, same, ap bytesRead (c .before .before .more .given .1), c .before .before .before .before .before .before .read-some .ensures), omega (arith, same, l .inv .1))
+    let same = same-len-mid (l .done) (length (l .buf) - l .done) (l .buf) (c6 .read-some .last .0) (c6 .read-some .kept .0) in
+    (omega (arith, same, ap bytesRead (c .before .before .more .given .1), c6 .read-some .ensures), omega (arith, same, l .inv .1))
 
 pub read-input-spec : {M : Type 1} → statement M
 read-input-spec =

@@ -36,14 +36,15 @@ spread-keys-requires c κs =
 
 returns : tie.Need-returns
 returns c =
+    let c17 = c .before .before .before .before .before .before .before .before .before .before .before .before .before .before .before .before .before in
     let p = c .before .before .before .before .before .before .before .before .before .before .before .before .before .before .before .before .before .before .before .before .before .before .before .before .before .before .before .before .before .before .before .before .before .before .before .before .before .before .before .before .before .pre in
     let room = p .1 in
     let f = c .before .before .before .before .before .before .before .before .before .before .before .before .before .before .before .before .before .before .before .before .before .before .before .before .before .before .before .before .find-keys in
     let e = c .before .before .before .before .before .before .before .before .backward-edges in
     let long = f .kept .1 .1 .1 .1 .1 .1 .0 ∙ room .keys-long in
     let few = few-blocks (p .0) (f .ensures .0) in
-    graph-tables (p .0) (f .ensures .0) (f .ensures .1) long (keys-ready (p .0) (f .ensures .0) (f .ensures .1) long .blocks) (omega (arith, few, room .uppers-long, c .before .before .before .before .before .before .before .before .before .before .before .before .before .before .before .before .before .pick-each .kept .1 .1 .1 .0)) (omega (arith, few, room .firsts-long, e .kept .1 .1 .1 .1 .1 .0))
-    (c .before .before .before .before .before .before .before .before .before .before .before .before .before .before .before .before .before .pick-each .ensures) (e .ensures) (c .before .before .spread-keys .ensures)
+    graph-tables (p .0) (f .ensures .0) (f .ensures .1) long (keys-ready (p .0) (f .ensures .0) (f .ensures .1) long .blocks) (omega (arith, few, room .uppers-long, c17 .pick-each .kept .1 .1 .1 .0)) (omega (arith, few, room .firsts-long, e .kept .1 .1 .1 .1 .1 .0))
+    (c17 .pick-each .ensures) (e .ensures) (c .before .before .spread-keys .ensures)
 
 pub graph-of-spec : {M : Type 1} → statement M
 graph-of-spec =

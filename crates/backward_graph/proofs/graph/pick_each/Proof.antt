@@ -34,11 +34,13 @@ shared-slice-read-to : tie.Need-shared-slice-read-to Inv-loop μ-loop
 shared-slice-read-to c = omega (arith, c .before .before .before .before .before .before .before .before .pre .2 (c .before .before .before .before .loop .i) (search needs), c .before .u16-to-usize .ensures .0)
 
 loop-again : tie.Need-loop-again Inv-loop μ-loop
-loop-again c = (
-  search needs,
-  search needs,
-  picked (c .before .before .before .before .before .before .before .before .args .from .now) (c .before .before .before .before .before .before .before .before .args .at .now) (c .before .before .before .before .loop .to) (c .before .before .before .before .loop .i) _ (search needs) (c .before .u16-to-usize .ensures .0) (c .before .before .before .before .loop .inv .2),
-)
+loop-again c =
+    let c4 = c .before .before .before .before in
+    let c8 = c .before .before .before .before .before .before .before .before in (
+      search needs,
+      search needs,
+      picked (c8 .args .from .now) (c8 .args .at .now) (c4 .loop .to) (c4 .loop .i) _ (search needs) (c .before .u16-to-usize .ensures .0) (c4 .loop .inv .2),
+    )
 
 returns : tie.Need-returns Inv-loop μ-loop
 returns c = λ i h. c .before .loop .inv .2 i (omega arith)

@@ -27,8 +27,9 @@ loop-holds c = (search needs, refl)
 -- the table keeps its length
 kept : (c : tie.At-loop Inv-loop μ-loop) → length (c .loop .table) ≡ length (c .before .before .before .before .before .before .before .args .table .now)
 kept c =
-    let a = c .before .before .before .before .before .before .before .args in
-    ap length (c .loop .inv .1) ∙ rows-kept (a .sheet .now) (a .goes .now) (a .uppers .now) (a .keys .now) (a .lowers .now) (a .table .now) (c .loop .b) (omega (arith, c .before .before .before .before .before .before .before .pre .0 .blocks)) (omega arith)
+    let c7 = c .before .before .before .before .before .before .before in
+    let a = c7 .args in
+    ap length (c .loop .inv .1) ∙ rows-kept (a .sheet .now) (a .goes .now) (a .uppers .now) (a .keys .now) (a .lowers .now) (a .table .now) (c .loop .b) (omega (arith, c7 .pre .0 .blocks)) (omega arith)
 
 block-at-requires : tie.Need-block-at-requires Inv-loop μ-loop
 block-at-requires c κs =
@@ -54,10 +55,12 @@ write-row-requires c κs =
 
 loop-again : tie.Need-loop-again Inv-loop μ-loop
 loop-again c =
-    let a = c .before .before .before .before .before .before .before .before .before .before .before .before .before .args in
-    let b = c .before .before .before .before .before .before .loop .b in
+    let c6 = c .before .before .before .before .before .before in
+    let c13 = c .before .before .before .before .before .before .before .before .before .before .before .before .before in
+    let a = c13 .args in
+    let b = c6 .loop .b in
     let six : rowNumbers * b + rowNumbers - rowNumbers * b ≡ rowNumbers = omega arith in
-    (search needs, rw six (rows-more (a .sheet .now) (a .goes .now) (a .uppers .now) (a .keys .now) (a .lowers .now) (a .table .now) b _ _ (c .before .before .before .before .before .before .loop .table) (c .before .before .write-row .last .1 .1 .1 .1 .1 .0) (omega (arith, c .before .before .before .before .before .before .before .before .before .before .before .before .before .pre .0 .blocks)) (c .before .before .before .before .block-at .ensures) (c .before .before .before .before .before .before .loop .inv .1) (c .before .before .write-row .ensures)))
+    (search needs, rw six (rows-more (a .sheet .now) (a .goes .now) (a .uppers .now) (a .keys .now) (a .lowers .now) (a .table .now) b _ _ (c6 .loop .table) (c .before .before .write-row .last .1 .1 .1 .1 .1 .0) (omega (arith, c13 .pre .0 .blocks)) (c .before .before .before .before .block-at .ensures) (c6 .loop .inv .1) (c .before .before .write-row .ensures)))
 
 same-length : tie.Need-same-length Inv-loop μ-loop
 same-length c = kept (c .before)

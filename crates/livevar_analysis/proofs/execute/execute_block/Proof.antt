@@ -1,4 +1,4 @@
--- `livevar_engine::engine::execute_block` meets its contract. The loop's invariant: what the instructions that are left make of the set is what all make of m.
+-- `livevar_analysis::execute::execute_block` meets its contract. The loop's invariant: what the instructions that are left make of the set is what all make of m.
 -- Assumes nothing.
 use mathlib.Core.Path.{_≡_, sym, ap, _∙_}
 use mathlib.Core.List.{List}
@@ -33,7 +33,9 @@ apply-requires : tie.Need-apply-requires Inv-loop μ-loop
 apply-requires c κs = record { fit = omega (arith, c .before .before .before .pre .fit) }
 
 loop-again : tie.Need-loop-again Inv-loop μ-loop
-loop-again c = record { within = search needs; same = λ code ruled h. c .before .before .loop .inv .same code ruled h ∙ execute-more code _ _ _ (c .before .loop-test .taken) (omega arith) ∙ ap (executeAll (take (c .before .before .loop .k - 1 - c .before .before .before .before .args .lower) (drop (c .before .before .before .before .args .lower) code))) (sym (c .apply .ensures ∙ ruled .each _ _ (omega arith))) }
+loop-again c =
+    let c4 = c .before .before .before .before in
+    record { within = search needs; same = λ code ruled h. c .before .before .loop .inv .same code ruled h ∙ execute-more code _ _ _ (c .before .loop-test .taken) (omega arith) ∙ ap (executeAll (take (c .before .before .loop .k - 1 - c4 .args .lower) (drop (c4 .args .lower) code))) (sym (c .apply .ensures ∙ ruled .each _ _ (omega arith))) }
 
 returns : tie.Need-returns Inv-loop μ-loop
 returns c code ruled h = sym (c .before .loop .inv .same code ruled h ∙ execute-none code _ _ _ (c .loop-test .left))

@@ -46,12 +46,13 @@ put-rule-requires c κs = room (c .before .before .before)
 
 loop-again : tie.Need-loop-again Inv-loop μ-loop
 loop-again c =
+    let c5 = c .before .before .before .before .before in
     let l = c .before .before .before .before .before .before .before .loop in
     let put = c .before .before .put-rule in
     let a = c .before .before .before .before .before .before .before .before .before .before in
     let s = a .args .sheet .now in
     let inside : l .k < countOf s = search needs in
-    let is : c .before .before .before .before .before .instruction-at .result ≡ at (codeOf s) (l .k) = c .before .before .before .before .before .instruction-at .ensures ∙ sym (code-at s (a .pre .0) (l .k) inside) in
+    let is : c5 .instruction-at .result ≡ at (codeOf s) (l .k) = c5 .instruction-at .ensures ∙ sym (code-at s (a .pre .0) (l .k) inside) in
     record {
       ruled = ruled-more (codeOf s) (l .k) _ _ _ _ _ (put .ensures) (λ m. c .before .before .before .before .rule-of .ensures m ∙ ap (λ (r : Bytecode). execute r m) is) (l .inv .ruled);
       within = search needs;

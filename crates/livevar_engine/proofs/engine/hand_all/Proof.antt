@@ -54,16 +54,20 @@ loop-less c = omega (arith, c .before .before .before .before .before .before .b
 
 loop-again : tie.Need-loop-again Inv-loop μ-loop
 loop-again c =
+    let c10 = c .before .before .before .before .before .before .before .before .before .before in
+    let c11 = c .before .before .before .before .before .before .before .before .before .before .before in
     let got = c .before .before .before .before .before .before .receive-at in
-    let k = c .before .before .before .before .before .before .before .before .before .before .before .loop .k in
-    let next : k - 2 + 1 ≡ k + 1 - 2 = omega (arith, c .before .before .before .before .before .before .before .before .before .before .before .loop .inv .block) in
+    let k = c11 .loop .k in
+    let next : k - 2 + 1 ≡ k + 1 - 2 = omega (arith, c11 .loop .inv .block) in
     record {
-      hands = rw (← next) (hand-more _ _ _ _ _ _ _ (c .before .before .before .before .before .before .before .before .before .before .before .before .before .before .before .pre .0) _ _ _ _ _ (c .before .before .before .before .before .before .before .before .before .before .before .loop .inv .hands) (more (c .before .before .before .before .before .before .before .before .before .before)) _ (block-at (c .before .before .before .before .before .before .before .before .before .before)) _ _ _ _ (got .ensures) (got .kept .0) (got .kept .1 .0) (got .kept .1 .1 .0));
+      hands = rw (← next) (hand-more _ _ _ _ _ _ _ (c .before .before .before .before .before .before .before .before .before .before .before .before .before .before .before .pre .0) _ _ _ _ _ (c11 .loop .inv .hands) (more (c10)) _ (block-at (c10)) _ _ _ _ (got .ensures) (got .kept .0) (got .kept .1 .0) (got .kept .1 .1 .0));
       block = search needs;
     }
 
 returns : tie.Need-returns Inv-loop μ-loop
-returns c = hand-all _ _ _ _ _ _ _ (c .before .before .before .before .before .pre .0) _ _ _ _ _ (c .before .loop .inv .hands) (omega (arith, length-tab (length (c .before .before .before .before .before .args .met .now) - 2) 2 (λ b. b), c .before .loop .inv .hands .met-kept))
+returns c =
+    let c5 = c .before .before .before .before .before in
+    hand-all _ _ _ _ _ _ _ (c5 .pre .0) _ _ _ _ _ (c .before .loop .inv .hands) (omega (arith, length-tab (length (c5 .args .met .now) - 2) 2 (λ b. b), c .before .loop .inv .hands .met-kept))
 
 pub hand-all-spec : {M : Type 1} → statement M
 hand-all-spec =

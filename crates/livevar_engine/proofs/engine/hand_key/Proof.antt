@@ -22,22 +22,25 @@ returns : tie.Need-returns
 returns c code edges nodes = handed-as _ _ _ _ _ _ _ _ _ (leads-all code _ _ nodes (c .before .before .before .before .before .before .before .before .before .before .if1 .taken)) refl (c .before .before .before .before .before .before .hand-all .ensures)
 
 -- the part of `edges`
-from-is : (c : tie.After-u16-to-usize3) → c .before .before .u16-to-usize2 .result ≡ getD (c .before .before .before .before .before .before .before .before .before .before .before .args .first-edge .now) (c .before .before .before .before .before .before .before .before .before .before .before .args .k) 0
+from-is : (c : tie.After-u16-to-usize3) → let c11 = c .before .before .before .before .before .before .before .before .before .before .before in c .before .before .u16-to-usize2 .result ≡ getD (c11 .args .first-edge .now) (c11 .args .k) 0
 from-is c = c .before .before .u16-to-usize2 .ensures .0 ∙ ap (λ (x : ℕ). getD (c .before .before .before .before .before .before .before .before .before .before .before .args .first-edge .now) x 0) (c .before .before .before .before .u16-to-usize .ensures .0)
 
-to-is : (c : tie.After-u16-to-usize3) → c .u16-to-usize3 .result ≡ getD (c .before .before .before .before .before .before .before .before .before .before .before .args .first-edge .now) (c .before .before .before .before .before .before .before .before .before .before .before .args .k + 1) 0
+to-is : (c : tie.After-u16-to-usize3) → let c11 = c .before .before .before .before .before .before .before .before .before .before .before in c .u16-to-usize3 .result ≡ getD (c11 .args .first-edge .now) (c11 .args .k + 1) 0
 to-is c = c .u16-to-usize3 .ensures .0 ∙ ap (λ (x : ℕ). getD (c .before .before .before .before .before .before .before .before .before .before .before .args .first-edge .now) (x + 1) 0) (c .before .before .before .before .u16-to-usize .ensures .0)
 
 inside : (c : tie.After-u16-to-usize3) → (c .before .before .u16-to-usize2 .result ≤ c .u16-to-usize3 .result) × (c .u16-to-usize3 .result ≤ length (c .before .before .before .before .before .before .before .before .before .before .before .args .edges .now))
 inside c =
-    let p = c .before .before .before .before .before .before .before .before .before .before .before .pre in
-    let k = c .before .before .before .before .before .before .before .before .before .before .before .args .k in
+    let c11 = c .before .before .before .before .before .before .before .before .before .before .before in
+    let p = c11 .pre in
+    let k = c11 .args .k in
     let below : k < length (keyed (p .code)) + 2 = omega (arith, p .inside, p .nodes) in
     (omega (arith, from-is c, to-is c, p .leads-are .leads .grows k below), omega (arith, to-is c, p .leads-are .leads .inside k below))
 
-part-is : (c : tie.After-u16-to-usize3) (code : List Bytecode) → Edges code (c .before .before .before .before .before .before .before .before .before .before .before .args .first-edge .now) (c .before .before .before .before .before .before .before .before .before .before .before .args .edges .now)
-    → length (c .before .before .before .before .before .before .before .before .before .before .before .args .met .now) ≡ 2 + length (keyed code) → take (c .u16-to-usize3 .result - c .before .before .u16-to-usize2 .result) (drop (c .before .before .u16-to-usize2 .result) (c .before .before .before .before .before .before .before .before .before .before .before .args .edges .now)) ≡ leads code (c .before .before .before .before .before .before .before .before .before .before .before .args .k)
-part-is c code edges n = rw (from-is c, to-is c) (edges .leads .each (c .before .before .before .before .before .before .before .before .before .before .before .args .k) (omega (arith, c .before .before .before .before .before .before .before .before .before .before .before .pre .inside)))
+part-is : (c : tie.After-u16-to-usize3) (code : List Bytecode) → let c11 = c .before .before .before .before .before .before .before .before .before .before .before in Edges code (c11 .args .first-edge .now) (c11 .args .edges .now)
+    → length (c11 .args .met .now) ≡ 2 + length (keyed code) → take (c .u16-to-usize3 .result - c .before .before .u16-to-usize2 .result) (drop (c .before .before .u16-to-usize2 .result) (c11 .args .edges .now)) ≡ leads code (c11 .args .k)
+part-is c code edges n =
+    let c11 = c .before .before .before .before .before .before .before .before .before .before .before in
+    rw (from-is c, to-is c) (edges .leads .each (c11 .args .k) (omega (arith, c11 .pre .inside)))
 
 mul-hand-on : tie.Need-mul-hand-on
 mul-hand-on c = let h = inside (c .before .before .before) in search needs

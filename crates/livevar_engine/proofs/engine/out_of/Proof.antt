@@ -16,10 +16,10 @@ returns c code sound ruled bounds inside = c .before .load .ensures ∙ rw (c .b
 block : (c : tie.Else1) → 2 ≤ c .before .before .before .before .before .before .before .args .k
 block c = omega (arith, c .before .before .u16-to-usize .ensures .0, c .if1 .left)
 
-upper-is : (c : tie.After-u16-to-usize3) → c .u16-to-usize3 .result ≡ getD (c .before .before .before .before .before .before .before .before .before .before .before .args .upper-of-key .now) (c .before .before .before .before .before .before .before .before .before .before .before .args .k - 2) 0
+upper-is : (c : tie.After-u16-to-usize3) → let c11 = c .before .before .before .before .before .before .before .before .before .before .before in c .u16-to-usize3 .result ≡ getD (c11 .args .upper-of-key .now) (c11 .args .k - 2) 0
 upper-is c = c .u16-to-usize3 .ensures .0 ∙ ap (λ (x : ℕ). getD (c .before .before .before .before .before .before .before .before .before .before .before .args .upper-of-key .now) (x - 2) 0) (c .before .before .before .before .before .before .u16-to-usize .ensures .0)
 
-lower-is : (c : tie.After-u16-to-usize3) → c .before .before .u16-to-usize2 .result ≡ getD (c .before .before .before .before .before .before .before .before .before .before .before .args .lower-of-key .now) (c .before .before .before .before .before .before .before .before .before .before .before .args .k - 2) 0
+lower-is : (c : tie.After-u16-to-usize3) → let c11 = c .before .before .before .before .before .before .before .before .before .before .before in c .before .before .u16-to-usize2 .result ≡ getD (c11 .args .lower-of-key .now) (c11 .args .k - 2) 0
 lower-is c = c .before .before .u16-to-usize2 .ensures .0 ∙ ap (λ (x : ℕ). getD (c .before .before .before .before .before .before .before .before .before .before .before .args .lower-of-key .now) (x - 2) 0) (c .before .before .before .before .before .before .u16-to-usize .ensures .0)
 
 execute-block-requires : tie.Need-execute-block-requires

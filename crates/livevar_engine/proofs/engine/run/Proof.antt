@@ -20,7 +20,7 @@ loop-holds : tie.Need-loop-holds Inv-loop μ-loop
 loop-holds c = held-begin _ _ _ _ _ _ _ _ _ (c .before .before .before .before .before .before .before .before .pre)
 
 -- the key that was taken stood in front of the list
-took : (c : tie.After-k Inv-loop μ-loop) → Took (c .before .before .before .before .loop .q) (c .before .before .before .before .loop .c) (c .k .given .0 .0) (c .k .given .0 .1 .0)
+took : (c : tie.After-k Inv-loop μ-loop) → let c4 = c .before .before .before .before in Took (c4 .loop .q) (c4 .loop .c) (c .k .given .0 .0) (c .k .given .0 .1 .0)
 took c = took-key _ _ _ _ (c .before .before .before .before .loop .inv .list-fits) (sym (c .k .given .1) ∙ c .before .before .take .ensures)
 
 out-of-requires : tie.Need-out-of-requires Inv-loop μ-loop
@@ -31,9 +31,11 @@ hand-key-requires c κs = held-hands _ _ _ _ _ _ _ _ _ (c .before .before .befor
 
 loop-less : tie.Need-loop-less Inv-loop μ-loop
 loop-less c =
+    let c6 = c .before .before .before .before .before .before in
+    let c17 = c .before .before .before .before .before .before .before .before .before .before .before .before .before .before .before .before .before in
     let t = took (c .before .before .before .before .before .before .before .before .before .before .before .before .before) in
-    let inv = c .before .before .before .before .before .before .before .before .before .before .before .before .before .before .before .before .before .loop .inv in
-    let moved : c .before .before .before .before .before .before .hand-key .result .head ≡ c .before .before .before .before .before .before .before .before .before .before .before .before .before .before .before .before .before .loop .c .head + 1 = held-head _ _ _ _ _ _ _ _ _ (c .before .before .before .before .before .before .before .before .before .before .before .before .before .before .before .before .before .before .before .before .before .before .before .before .before .before .pre) _ _ _ _ inv _ _ t _ (c .before .before .before .before .before .before .before .before .before .before .out-of .ensures) _ _ _ _ (c .before .before .before .before .before .before .hand-key .ensures) in
+    let inv = c17 .loop .inv in
+    let moved : c6 .hand-key .result .head ≡ c17 .loop .c .head + 1 = held-head _ _ _ _ _ _ _ _ _ (c .before .before .before .before .before .before .before .before .before .before .before .before .before .before .before .before .before .before .before .before .before .before .before .before .before .before .pre) _ _ _ _ inv _ _ t _ (c .before .before .before .before .before .before .before .before .before .before .out-of .ensures) _ _ _ _ (c6 .hand-key .ensures) in
     omega (arith, moved, t .next-head, t .same-end, inv .list-fits, inv .q-kept)
 
 loop-again : tie.Need-loop-again Inv-loop μ-loop

@@ -1,3 +1,4 @@
+-- `livevar_transform::plan::after_at` meets its contract. Assumes nothing.
 use mathlib.Core.Path.{_∙_}
 use Prim.Native.Nat.{_*_}
 use Rattle.base.specs.Sizes.{pairBytes}

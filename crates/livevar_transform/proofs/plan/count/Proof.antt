@@ -1,3 +1,4 @@
+-- `livevar_transform::plan::count` meets its contract. Assumes nothing.
 use mathlib.Core.Path.{_≡_, _∙_}
 use mathlib.Core.Logic.{⊎-elim}
 use mathlib.Core.Bool.{not}

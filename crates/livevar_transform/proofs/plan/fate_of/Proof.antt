@@ -1,3 +1,4 @@
+-- `livevar_transform::plan::fate_of` meets its contract. Assumes nothing.
 use mathlib.Core.Path.{sym, _∙_}
 use mathlib.Core.Bool.{true, false}
 use Rattle.livevar_transform.specs.PlanLaws.{ranged, room-at, dead-at, fate-behind, fate-dead, fate-kept}

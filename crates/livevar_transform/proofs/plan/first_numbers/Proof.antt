@@ -1,3 +1,4 @@
+-- `livevar_transform::plan::first_numbers` meets its contract. Assumes nothing.
 use mathlib.Core.Path.{_≡_}
 use Prim.Native.Nat.{_-_, _≤_, max}
 use lib.ListN.{drop}

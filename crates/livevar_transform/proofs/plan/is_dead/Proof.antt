@@ -1,3 +1,4 @@
+-- `livevar_transform::plan::is_dead` meets its contract. Assumes nothing.
 use mathlib.Core.Logic.{inl, inr}
 use Rattle.livevar_transform.specs.PlanLaws.{dst-low, dead-by, dead-not}
 use borrow.Author.Needs.{needs}

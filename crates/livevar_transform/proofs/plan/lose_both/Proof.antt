@@ -1,3 +1,4 @@
+-- `livevar_transform::plan::lose_both` meets its contract. Assumes nothing.
 use Rattle.livevar_transform.specs.LostLaws.{both-lost}
 use borrow.Author.Needs.{needs}
 use Rattle.livevar_transform.proofs.plan.lose_both.Statement.{statement}

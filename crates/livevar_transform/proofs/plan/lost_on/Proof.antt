@@ -1,3 +1,4 @@
+-- `livevar_transform::plan::lost_on` meets its contract. Assumes nothing.
 use mathlib.Core.Path.{ap, _∙_}
 use lib.ListN.{getD}
 use Prim.Native.Nat.{ℕ, _*_}

@@ -1,3 +1,4 @@
+-- `livevar_transform::plan::past_both` meets its contract. Assumes nothing.
 use Rattle.livevar_transform.specs.NumberLaws.{wide-below, past-below, past-two}
 use native.Mathlib.Omega.{arith}
 use borrow.Author.Needs.{needs}

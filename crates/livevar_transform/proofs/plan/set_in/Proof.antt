@@ -1,3 +1,4 @@
+-- `livevar_transform::plan::set_in` meets its contract. Assumes nothing.
 use mathlib.Core.Path.{_≡_, ap, _∙_}
 use Prim.Native.Nat.{ℕ, _+_, _-_}
 use Rattle.base.specs.Sizes.{setBytes}

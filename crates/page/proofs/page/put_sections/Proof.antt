@@ -18,8 +18,9 @@ use Rattle.page.proofs.page.put_sections.Tie as tie
 
 analyze-requires : tie.Need-analyze-requires
 analyze-requires c κs =
-    let p = c .before .before .before .before .pre in
-    (p, omega (arith, code-length (c .before .before .before .before .args .s .now), accepted-valid _ (p .accepted) .few, length-replicate {A = ℕ} (pairBytes * maxInstructions) 0))
+    let c4 = c .before .before .before .before in
+    let p = c4 .pre in
+    (p, omega (arith, code-length (c4 .args .s .now), accepted-valid _ (p .accepted) .few, length-replicate {A = ℕ} (pairBytes * maxInstructions) 0))
 
 put-live-section-requires : tie.Need-put-live-section-requires
 put-live-section-requires c κs =
@@ -29,8 +30,9 @@ put-live-section-requires c κs =
 
 put-rewritten-section-requires : tie.Need-put-rewritten-section-requires
 put-rewritten-section-requires c κs =
+    let c16 = c .before .before .before .before .before .before .before .before .before .before .before .before .before .before .before .before in
     let p = c .before .before .before .before .before .before .before .before .before .before .before .before .before .before .before .before .before .before .before .before .before .pre in
-    (p .accepted, asked p (c .before .before .before .before .before .before .before .before .before .before .before .before .before .before .before .before .analyze .ensures) (omega (arith, accepted-valid _ (p .accepted) .few, p .count, c .before .before .before .before .before .before .before .before .before .before .before .before .before .before .before .before .analyze .kept .1 .1 .1 .0)))
+    (p .accepted, asked p (c16 .analyze .ensures) (omega (arith, accepted-valid _ (p .accepted) .few, p .count, c16 .analyze .kept .1 .1 .1 .0)))
 
 returns : tie.Need-returns
 returns c =

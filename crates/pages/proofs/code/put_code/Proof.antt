@@ -30,12 +30,15 @@ loop-holds : tie.Need-loop-holds Inv-loop μ-loop
 loop-holds c = (omega arith, count-of (c .before .before .before .before .before .before .before .before .args .s .now) _ (c .before .before .before .before .u16-to-u32 .ensures .0 ∙ c .before .before .before .before .before .u16-at .ensures), wrote-as (lines-none _) (wrote-none _ _))
 
 instruction-at-requires : tie.Need-instruction-at-requires Inv-loop μ-loop
-instruction-at-requires c κs = let h = accepted-has (c .before .before .before .before .before .before .before .before .before .before .args .s .now) (c .before .before .before .before .before .before .before .before .before .before .pre) (c .before .loop .k) (omega arith) in (h .ends, h .few)
+instruction-at-requires c κs =
+    let c10 = c .before .before .before .before .before .before .before .before .before .before in
+    let h = accepted-has (c10 .args .s .now) (c10 .pre) (c .before .loop .k) (omega arith) in (h .ends, h .few)
 
 loop-again : tie.Need-loop-again Inv-loop μ-loop
 loop-again c =
+    let c15 = c .before .before .before .before .before .before .before .before .before .before .before .before .before .before .before in
     let l = c .before .before .before .before .before .before .loop in
-    (omega arith, l .inv .1, wrote-as (lines-more (c .before .before .before .before .before .before .before .before .before .before .before .before .before .before .before .args .s .now) (l .k) _ (c .before .before .before .before .before .before .before .before .before .before .before .before .before .before .before .pre) (omega arith) (c .before .before .before .before .instruction-at .ensures)) (wrote-then (l .inv .2) (c .before .before .put-code-line .ensures)))
+    (omega arith, l .inv .1, wrote-as (lines-more (c15 .args .s .now) (l .k) _ (c15 .pre) (omega arith) (c .before .before .before .before .instruction-at .ensures)) (wrote-then (l .inv .2) (c .before .before .put-code-line .ensures)))
 
 same-length : tie.Need-same-length Inv-loop μ-loop
 same-length c = wrote-length (wrote-then (c .before .before .before .before .put-heading .ensures) (c .before .loop .inv .2))

@@ -57,11 +57,12 @@ outer-again c =
 
 returns-2 : tie.Need-returns-2 Inv-loop μ-loop Inv-outer μ-outer
 returns-2 c =
+    let c4 = c .before .before .before .before in
     let c12 = c .before .before .before .before .before .before .before .before .before .before .before .before in
     let o = c .before .before .before .before .before .before .before .outer in
-    let is = slot-is (c12 .pre .0) (o .e) (search needs) (c .before .before .before .before .before .instruction-at .ensures) (c .before .before .before .before .name .ensures) in
+    let is = slot-is (c12 .pre .0) (o .e) (search needs) (c .before .before .before .before .before .instruction-at .ensures) (c4 .name .ensures) in
     named-missing _ _ (code-below (c12 .pre .0) (λ i. omega (arith, c .before .before .before .before .before .before .before .before .before .before .before .shared-slice-known .given i)))
-    (slots-missing (o .inv) (search needs) (c .before .before .before .before .name .result) is (c .before .before .before .if2 .taken) (ap (has (c .before .before .before .before .name .result)) (sym (c12 .pre .1 .names)) ∙ search-end (c .before .loop .inv) (search needs)))
+    (slots-missing (o .inv) (search needs) (c4 .name .result) is (c .before .before .before .if2 .taken) (ap (has (c4 .name .result)) (sym (c12 .pre .1 .names)) ∙ search-end (c .before .loop .inv) (search needs)))
 
 pub resolve-spec : {M : Type 1} → statement M
 resolve-spec =

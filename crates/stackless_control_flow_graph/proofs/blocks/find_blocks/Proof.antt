@@ -37,6 +37,7 @@ counted code xs r e is = e ∙ ap length is
 
 returns : tie.Need-returns
 returns c =
+    let c7 = c .before .before .before .before .before .before .before in
     let c21 = c .before .before .before .before .before .before .before .before .before .before .before .before .before .before .before .before .before .before .before .before .before in
     let size = checked-size (c21 .pre .0) in
     let v = c .before .before .before .before .before .before .before .before .before .before .before .before .before .visit-all in
@@ -47,8 +48,8 @@ returns c =
       places = omega (arith, size, v .kept .1 .1 .1 .0);
       front = l .0 ∙ is;
       count = counted _ _ _ (l .1) is;
-      upper = c .before .before .before .before .before .before .before .find-uppers .ensures _ size (v .ensures .1);
-      offsets = omega (arith, size, c .before .before .before .before .before .before .before .find-uppers .kept .1 .1 .0);
+      upper = c7 .find-uppers .ensures _ size (v .ensures .1);
+      offsets = omega (arith, size, c7 .find-uppers .kept .1 .1 .0);
     }
 
 pub find-blocks-spec : {M : Type 1} → statement M

@@ -24,10 +24,11 @@ list-lower-requires c κs = (omega (arith, c .before .before .before .loop .inv 
 
 loop-again : tie.Need-loop-again Inv-loop μ-loop
 loop-again c =
+    let c6 = c .before .before .before .before .before .before in
     let l = c .before .before .list-lower in
-    let i = c .before .before .before .before .before .before .loop .inv in
+    let i = c6 .loop .inv in
     let marks = c .before .before .before .before .before .before .before .before .before .args .marks .now in
-    let k = c .before .before .before .before .before .before .loop .k in
+    let k = c6 .loop .k in
     (search needs, l .kept .0 ∙ i .1, omega (arith, listing-most marks _ _ k _ _ (l .ensures)), marked-more marks _ _ k _ _ (l .ensures) (i .3))
 
 same-length : tie.Need-same-length Inv-loop μ-loop

@@ -15,10 +15,14 @@ slice-read-if2 : tie.Need-slice-read-if2
 slice-read-if2 c = c .before .before .before .before .pre .1 (c .before .if1 .left)
 
 returns-2 : tie.Need-returns-2
-returns-2 c = give-old _ _ _ _ (c .before .before .before .before .before .pre .0) (c .before .before .if1 .left) (c .before .before .before .before .before .pre .1 (c .before .before .if1 .left)) (c .if2 .taken)
+returns-2 c =
+    let c5 = c .before .before .before .before .before in
+    give-old _ _ _ _ (c5 .pre .0) (c .before .before .if1 .left) (c5 .pre .1 (c .before .before .if1 .left)) (c .if2 .taken)
 
 usize-to-u16-requires : tie.Need-usize-to-u16-requires
-usize-to-u16-requires c κs = omega (arith, give-room _ _ _ _ (c .before .before .before .before .before .pre .0) (c .before .before .if1 .left) (c .before .before .before .before .before .pre .1 (c .before .before .if1 .left)) (c .if2 .left))
+usize-to-u16-requires c κs =
+    let c5 = c .before .before .before .before .before in
+    omega (arith, give-room _ _ _ _ (c5 .pre .0) (c .before .before .if1 .left) (c5 .pre .1 (c .before .before .if1 .left)) (c .if2 .left))
 
 mul-keys : tie.Need-mul-keys
 mul-keys c = omega (arith, c .before .before .before .before .before .before .pre .1 (c .before .before .before .if1 .left))
@@ -30,12 +34,16 @@ usize-to-u16-requires-2 : tie.Need-usize-to-u16-requires-2
 usize-to-u16-requires-2 c κs = omega (arith, c .before .before .before .before .before .before .pre .1 (c .before .before .before .if1 .left))
 
 slice-write-lower-of-key : tie.Need-slice-write-lower-of-key
-slice-write-lower-of-key c = omega (arith, give-room _ _ _ _ (c .before .before .before .before .before .before .before .pre .0) (c .before .before .before .before .if1 .left) (c .before .before .before .before .before .before .before .pre .1 (c .before .before .before .before .if1 .left)) (c .before .before .if2 .left))
+slice-write-lower-of-key c =
+    let c4 = c .before .before .before .before in
+    let c7 = c .before .before .before .before .before .before .before in
+    omega (arith, give-room _ _ _ _ (c7 .pre .0) (c4 .if1 .left) (c7 .pre .1 (c4 .if1 .left)) (c .before .before .if2 .left))
 
 returns-3 : tie.Need-returns-3
 returns-3 c =
+    let c4 = c .before .before .before .before in
     let p = c .before .before .before .before .before .before .before .pre in
-    give-new _ _ _ _ (p .0) (c .before .before .before .before .if1 .left) (p .1 (c .before .before .before .before .if1 .left)) (c .before .before .if2 .left) _ _ (c .before .usize-to-u16 .ensures) (c .usize-to-u162 .ensures) (p .2)
+    give-new _ _ _ _ (p .0) (c4 .if1 .left) (p .1 (c4 .if1 .left)) (c .before .before .if2 .left) _ _ (c .before .usize-to-u16 .ensures) (c .usize-to-u162 .ensures) (p .2)
 
 pub give-key-spec : {M : Type 1} → statement M
 give-key-spec =

@@ -18,10 +18,14 @@ abbrev μ-loop : tie.MeasureT-loop
 μ-loop sheet n targets goes₀ marks₀ k₀ goes marks k = n - k
 
 loop-holds : tie.Need-loop-holds Inv-loop μ-loop
-loop-holds c = (search needs, refl, refl, record { each = λ j h. absurd (omega arith) }, marks-begin (c .before .before .before .before .args .sheet .now) (c .before .before .before .before .args .marks .now) (omega arith) (c .before .before .before .before .pre .3))
+loop-holds c =
+    let c4 = c .before .before .before .before in
+    (search needs, refl, refl, record { each = λ j h. absurd (omega arith) }, marks-begin (c4 .args .sheet .now) (c4 .args .marks .now) (omega arith) (c4 .pre .3))
 
 visit-requires : tie.Need-visit-requires Inv-loop μ-loop
-visit-requires c κs = (c .before .before .before .before .before .before .before .before .pre .0, search needs, omega (arith, c .before .before .before .loop .inv .1), omega (arith, c .before .before .before .loop .inv .2, length-set (c .before .before .before .before .before .before .before .before .args .marks .now) 0 1))
+visit-requires c κs =
+    let c8 = c .before .before .before .before .before .before .before .before in
+    (c8 .pre .0, search needs, omega (arith, c .before .before .before .loop .inv .1), omega (arith, c .before .before .before .loop .inv .2, length-set (c8 .args .marks .now) 0 1))
 
 loop-again : tie.Need-loop-again Inv-loop μ-loop
 loop-again c =
@@ -37,8 +41,9 @@ same-length-2 c = c .before .loop .inv .2 ∙ length-set (c .before .before .bef
 
 returns : tie.Need-returns Inv-loop μ-loop
 returns c =
-    let n : c .before .loop .k ≡ c .before .before .before .before .before .before .args .n = omega arith in
-    let size = checked-size (c .before .before .before .before .before .before .pre .0) in
+    let c6 = c .before .before .before .before .before .before in
+    let n : c .before .loop .k ≡ c6 .args .n = omega arith in
+    let size = checked-size (c6 .pre .0) in
     (rw (← n) (c .before .loop .inv .3), marks-end _ _ (rw (size, ← n) (c .before .loop .inv .4)))
 
 pub visit-all-spec : {M : Type 1} → statement M

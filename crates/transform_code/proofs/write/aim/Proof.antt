@@ -1,3 +1,4 @@
+-- `transform_code::write::aim` meets its contract. Assumes nothing.
 use mathlib.Core.Path.{_∙_}
 use Rattle.livevar_transform.specs.NumberLaws.{wide-below, label-one, label-two}
 use Rattle.livevar_transform.specs.NewCodeLaws.{aimed-by}

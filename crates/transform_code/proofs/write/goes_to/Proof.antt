@@ -1,3 +1,4 @@
+-- `transform_code::write::goes_to` meets its contract. Assumes nothing.
 use mathlib.Core.Path.{sym, _∙_}
 use borrow.Author.Tests.{eqb-true, eqb-false}
 use Rattle.dataflow_domains.specs.SetLaws.{array, mask-small}

@@ -1,3 +1,4 @@
+-- `transform_code::write::put_all_kept` meets its contract. Assumes nothing.
 use mathlib.Core.Path.{_≡_, refl, ap}
 use Prim.Native.Nat.{ℕ, _*_, _-_, _≤_}
 use lib.ListN.{length, length-drop}

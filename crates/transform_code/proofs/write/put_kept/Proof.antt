@@ -1,3 +1,4 @@
+-- `transform_code::write::put_kept` meets its contract. Assumes nothing.
 use mathlib.Core.Path.{sym, ap, _∙_}
 use mathlib.Core.List.{List}
 use lib.ListN.{length}

@@ -1,3 +1,4 @@
+-- `transform_code::write::stands_for` meets its contract. Assumes nothing.
 use mathlib.Core.Path.{sym, _∙_}
 use Rattle.livevar_analysis.specs.InputLaws.{code-at, record-inside}
 use Rattle.livevar_transform.specs.NewCodeLaws.{stands-branch, stands-merged, stands-plain}

@@ -1,3 +1,4 @@
+-- `livevar_transform::plan::Next::past` meets its contract. Assumes nothing.
 use mathlib.Core.Path.{refl, sym, _∙_}
 use borrow.Author.Tests.{eqb-true, eqb-false}
 use Rattle.base.specs.Sizes.{maxLocals}
