@@ -13,7 +13,7 @@
  * Stack. The calls allocate nothing and keep nothing between calls, so that threads may call them at the same time; their arrays are on the stack.
  * A thread of SORZIBELU_STACK_BYTES is enough for every call but sorzibelu_page, which needs SORZIBELU_PAGE_STACK_BYTES:
  *
- *     check 16.2 KiB   flow 16.3 KiB   live 189.5 KiB   rewrite 205.5 KiB   livelist 205.5 KiB   page 240.6 KiB   dying 9.3 KiB
+ *     check 16.2 KiB   flow 17.3 KiB   live 189.5 KiB   rewrite 205.6 KiB   livelist 205.6 KiB   page 240.6 KiB   dying 9.3 KiB
  *     in_use, conditional below 1 KiB
  */
 #ifndef SORZIBELU_H

@@ -24,7 +24,7 @@
 //!
 //! | check | flow | live | rewrite | livelist | page | dying | in use, conditional |
 //! |---|---|---|---|---|---|---|---|
-//! | 16.2 KiB | 16.3 KiB | 189.5 KiB | 205.5 KiB | 205.5 KiB | 240.6 KiB | 9.3 KiB | below 1 KiB |
+//! | 16.2 KiB | 17.3 KiB | 189.5 KiB | 205.6 KiB | 205.6 KiB | 240.6 KiB | 9.3 KiB | below 1 KiB |
 #![warn(missing_docs)]
 mod calls;
 mod ffi;
