@@ -1,0 +1,4 @@
+-- What the inner contracts say.
+pub mod BlockSearch
+-- Laws.
+pub mod RowLaws
