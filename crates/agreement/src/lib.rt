@@ -8,6 +8,7 @@ ghost use Rattle.borrow_analysis.specs.Borrows.{inUseReply, conditionalReply, d
 ghost use Rattle.stackless_control_flow_graph.specs.Blocks.{flowReply};
 ghost use Rattle.livevar_analysis.specs.Analysis.{liveReply};
 ghost use Rattle.livevar_transform.specs.Rewrite.{rewriteReply};
+ghost use Rattle.eliminate_unused_vars.specs.Renumber.{renumberReply};
 ghost use Rattle.agreement.specs.Agree.{Says, SameResult, Agrees, AgreesPairs, atFront, pairs};
 use c_api::sorzibelu_check;
 use c_api::sorzibelu_conditional;
@@ -15,6 +16,7 @@ use c_api::sorzibelu_dying;
 use c_api::sorzibelu_flow;
 use c_api::sorzibelu_in_use;
 use c_api::sorzibelu_live;
+use c_api::sorzibelu_renumber;
 use c_api::sorzibelu_rewrite;
 use check::same;
 
@@ -88,6 +90,14 @@ pub fn rewrite_agrees(sheet: &[u8], lent: usize, result: u64, want: &[u8], out: 
     ensures { λ r. ⌜ Says r (Agrees (rewriteReply (now (sheet .entry)) lent) lent result (now (out .entry)) (now (want .entry))) ⌝ }
 {
     let r = sorzibelu_rewrite(sheet, &mut out[..lent]);
+    agrees(r, result, out, want)
+}
+
+pub fn renumber_agrees(sheet: &[u8], lent: usize, result: u64, want: &[u8], out: &mut [u8]) -> bool
+    requires { ⌜ lent ≤ length (now out) ⌝ }
+    ensures { λ r. ⌜ Says r (Agrees (renumberReply (now (sheet .entry)) lent) lent result (now (out .entry)) (now (want .entry))) ⌝ }
+{
+    let r = sorzibelu_renumber(sheet, &mut out[..lent]);
     agrees(r, result, out, want)
 }
 

@@ -10,9 +10,7 @@ use Rattle.stackless_bytecode.specs.declared.Bytecode.{Bytecode}
 use Rattle.sheet.specs.Checks.{checkSheet}
 use Rattle.stackless_control_flow_graph.specs.FlowMeaning.{FlowMeaning}
 use Rattle.livevar_analysis.specs.LiveCall.{LeastLive, TakenUntilEmpty}
-use Rattle.livevar_transform.specs.RewriteAccepted.{AcceptedRewriting}
-use Rattle.borrow_analysis.specs.Graph.{Graph}
-use Rattle.borrow_analysis.specs.Meaning.{DyingList, Decides}
+use Rattle.borrow_analysis.specs.Meaning.{Decides}
 use Rattle.c_api.specs.Packed.{checkReply}
 
 -- what holds of an answer whose number is 0
@@ -29,14 +27,12 @@ module _ {x y : Result} (e : x ≡ y) where
   pub flow-of : {code : List Bytecode} {table : List ℕ} → (x .number ≡ 0 → FlowMeaning code (x .value) table) → y .number ≡ 0 → FlowMeaning code (y .value) table
   flow-of {code} {table} = of-result (λ r. FlowMeaning code (r .value) table) e
 
-  pub rewriting-of : {s : List ℕ} (out : List ℕ) → (x .number ≡ 0 → AcceptedRewriting s (take (x .value) out)) → y .number ≡ 0 → AcceptedRewriting s (take (y .value) out)
-  rewriting-of {s} out = of-result (λ r. AcceptedRewriting s (take (r .value) out)) e
+  -- of what is written
+  pub front-of : (P : List ℕ → Type 0) (out : List ℕ) → (x .number ≡ 0 → P (take (x .value) out)) → y .number ≡ 0 → P (take (y .value) out)
+  front-of P out = of-result (λ r. P (take (r .value) out)) e
 
   pub decides-of : {P : Type 0} → (x .number ≡ 0 → Decides (eqb (x .value) 1) P) → y .number ≡ 0 → Decides (eqb (y .value) 1) P
   decides-of {P} = of-result (λ r. Decides (eqb (r .value) 1) P) e
-
-  pub dying-of : {here next : Graph} (out : List ℕ) → (x .number ≡ 0 → DyingList here next (take (x .value) out)) → y .number ≡ 0 → DyingList here next (take (y .value) out)
-  dying-of {here} {next} out = of-result (λ r. DyingList here next (take (r .value) out)) e
 
 -- the checks alone
 pub check-accepted : (s : List ℕ) → checkSheet s ≡ Accepted → resultOf (checkReply s) ≡ record { number = 0; value = 0 }

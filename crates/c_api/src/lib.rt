@@ -10,6 +10,8 @@ ghost use Rattle.livevar_analysis.specs.Analysis.{liveReply};
 ghost use Rattle.livevar_analysis.specs.LiveCall.{LeastLive, TakenUntilEmpty};
 ghost use Rattle.livevar_transform.specs.Rewrite.{rewriteReply};
 ghost use Rattle.livevar_transform.specs.RewriteAccepted.{AcceptedRewriting};
+ghost use Rattle.eliminate_unused_vars.specs.Renumber.{renumberReply};
+ghost use Rattle.eliminate_unused_vars.specs.Renumbered.{Renumbered};
 ghost use Rattle.borrow_analysis.specs.Graph.{graphInput, graphOf};
 ghost use Rattle.borrow_analysis.specs.Borrows.{inUseReply, conditionalReply, dyingReply};
 ghost use Rattle.borrow_analysis.specs.Meaning.{InUse, Conditional, DyingList, Decides};
@@ -70,6 +72,16 @@ pub extern "C" fn sorzibelu_rewrite(sheet: &[u8], out: &mut [u8]) -> u64
     ensures accepted { λ _. ⌜ (resultOf (rewriteReply (now (sheet .entry)) (length (now (out .entry)))) .number ≡ 0 → AcceptedRewriting (now (sheet .entry)) (take (resultOf (rewriteReply (now (sheet .entry)) (length (now (out .entry)))) .value) (now (out .exit)))) ⌝ }
 {
     pack(rewrite::rewrite::rewrite(sheet, out))
+}
+
+// How many bytes the renumbered sheet has, and the sheet at the front of `out`.
+#[no_mangle]
+pub extern "C" fn sorzibelu_renumber(sheet: &[u8], out: &mut [u8]) -> u64
+    ensures result { λ r. ⌜ r ≡ packed (resultOf (renumberReply (now (sheet .entry)) (length (now (out .entry))))) ⌝ }
+    ensures written { λ _. ⌜ now (out .exit) ≡ outputAfter (renumberReply (now (sheet .entry)) (length (now (out .entry)))) (now (out .entry)) ⌝ }
+    ensures renumbered { λ _. ⌜ (resultOf (renumberReply (now (sheet .entry)) (length (now (out .entry)))) .number ≡ 0 → Renumbered (now (sheet .entry)) (take (resultOf (renumberReply (now (sheet .entry)) (length (now (out .entry)))) .value) (now (out .exit)))) ⌝ }
+{
+    pack(renumber::renumber::renumber(sheet, out))
 }
 
 // Whether a node is in use: 1 or 0.

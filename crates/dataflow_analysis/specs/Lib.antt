@@ -11,3 +11,4 @@ pub mod LeastLaws
 pub mod MaskListLaws
 pub mod QueueLaws
 pub mod ReceiptLaws
+pub mod RunMapLaws

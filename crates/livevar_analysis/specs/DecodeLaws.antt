@@ -30,7 +30,7 @@ union-assoc : (a b c : ℕ) → union a (union b c) ≡ union (union a b) c
 union-assoc a b c =
     ext _ _ (λ i. omega (arith, bit-union a (union b c) i, bit-union b c i, bit-union (union a b) c i, bit-union a b i))
 
-setOf-end : (xs : List ℕ) (x : ℕ) → setOf (xs ++ (x ∷ [])) ≡ union (setOf xs) (2 ^ x)
+pub setOf-end : (xs : List ℕ) (x : ℕ) → setOf (xs ++ (x ∷ [])) ≡ union (setOf xs) (2 ^ x)
 unfolding setOf
 setOf-end [] x = ext _ _ (λ i. omega (arith, bit-union (2 ^ x) 0 i, bit-union 0 (2 ^ x) i))
 setOf-end (y ∷ xs) x = ap (union (2 ^ y)) (setOf-end xs x) ∙ union-assoc (2 ^ y) (setOf xs) (2 ^ x)

@@ -7,9 +7,9 @@ use Prim.Native.Nat.{ℕ, suc, _+_, _-_, _*_, _/_, _%_, _^_, _≤_, _<_}
 use native.Mathlib.Omega.{arith}
 use borrow.Author.Tests.{lt-ltb, eqb-true, leb-true}
 use lib.Dec.{eqb, leb, ltb}
-use lib.ListN.{getD, take, drop, length, replicate}
+use lib.ListN.{getD, take, drop, length}
 use Rattle.stackless_bytecode.specs.declared.Bytecode.{Bytecode}
-use Rattle.base.specs.Sizes.{blockBytes, listPlaces, maxLocals, maxNumber, maxInstructions}
+use Rattle.base.specs.Sizes.{blockBytes, maxLocals, maxNumber, maxInstructions}
 use Rattle.base.specs.Refusals.{Accepted, Refused, Verdict, Reply, Done, reply}
 use Rattle.base.specs.RefusalLaws.{passed, passed-whole}
 use Rattle.base.specs.Lists.{all, zeros}
@@ -27,31 +27,20 @@ use Rattle.livevar_transform.specs.PieceLaws.{Part, Merged, is-merged, m
 use Rattle.livevar_transform.specs.PlaceLaws.{Where, where-is, new-length, new-kept, added-part, pos-inside, by-stands, losing-some, some-losing, losing-branch, in-lost, added-length}
 use Rattle.livevar_transform.specs.SoundLaws.{last-kept, new-sound, new-unique}
 use Rattle.dataflow_domains.specs.MaskLaws.{bit-above}
-use Rattle.sheet.specs.AcceptedLaws.{assign-fits, local-lt}
+use Rattle.sheet.specs.AcceptedLaws.{is-fits, fits-is, assign-fits, local-lt}
 use Rattle.base.specs.Bytes.{Bytes}
 use Rattle.sheet_writer.specs.BodyLaws.{accepted-body, small-by, by-small, heading, Body}
-use Rattle.sheet_writer.specs.EncodeLaws.{Small, Encodes, padded-size, small-nil, small-cons, small-append, small-take, small-drop, small-zeros, sheet-small}
+use Rattle.sheet_writer.specs.EncodeLaws.{Small, Encodes, padded-size, small-nil, small-cons, small-take, small-drop, small-padded, sheet-small}
 use Rattle.sheet.specs.AcceptLaws.{and-both, all-by}
 use Rattle.sheet_writer.specs.AgainLaws.{same-locals, same-users, same-params, same-refs, same-code, accepted-again}
 
 -- ---- the table of kinds, taken apart
 
--- the tests before the one of the destinations' places
-abbrev early : Shape → Bytecode → Bool
-early f r =
-    ltb (r .sub) (f .subs) && leb (f .dlow) (r .ndst) && leb (r .ndst) (f .dhigh)
-    && leb (f .slow) (r .nsrc) && leb (r .nsrc) (f .shigh)
-    && (f .one || eqb (r .flag) 1 || eqb (r .one) 0) && (f .two || eqb (r .two) 0)
-    && (eqb (r .flag) 0 || (f .flag && eqb (r .flag) 1)) && (eqb (r .flag) 1 || eqb (r .abort) 0)
-
 -- another list of destinations, zero past the count too
 into-fits : (f : Shape) (r : Bytecode) (ds : List ℕ) → fits f r ≡ true → zeros (drop (r .ndst) ds) ≡ true → fits f (into r ds) ≡ true
-unfolding fits
 into-fits f r ds e z =
-    let c = and-true _ (f .payload || eqb (r .payload) 0) e in
-    let b = and-true _ (zeros (drop (r .nsrc) (r .srcs))) (c .0) in
-    let a = and-true (early f r) (zeros (drop (r .ndst) (r .dsts))) (b .0) in
-    and-both (and-both (and-both (a .0) z) (b .1)) (c .1)
+    let o = is-fits f r e in
+    fits-is f (into r ds) (record { sub = o .sub; dlow = o .dlow; dhigh = o .dhigh; slow = o .slow; shigh = o .shigh; one = o .one; two = o .two; flag = o .flag; abort = o .abort; dsts = z; srcs = o .srcs; payload = o .payload })
 
 -- a Branch's labels are free
 aimed-fits : (r : Bytecode) (x y : ℕ) → r .kind ≡ Branch → recordOk (aimed r x y) ≡ recordOk r
@@ -71,7 +60,6 @@ unfolding recordOk fits padded zeros
 last-fits a t = refl
 
 made-encodes : (kind sub a l : ℕ) (xs : List ℕ) → kind < 256 → sub < 256 → length xs < 256 → a ≤ maxNumber → l ≤ maxNumber → Small xs → Encodes (made kind sub a l xs)
-unfolding padded
 made-encodes kind sub a l xs hk hs hl ha hone small = record {
   kind = hk;
   sub = hs;
@@ -79,8 +67,8 @@ made-encodes kind sub a l xs hk hs hl ha hone small = record {
   nsrc = hl;
   flag = omega arith;
   abort = omega arith;
-  dsts-small = small-take listPlaces ([] ++ replicate listPlaces 0) (small-zeros listPlaces);
-  srcs-small = small-take listPlaces (xs ++ replicate listPlaces 0) (small-append small (small-zeros listPlaces));
+  dsts-small = small-padded [] small-nil;
+  srcs-small = small-padded xs small;
   attr = ha;
   one = hone;
   two = omega arith;
@@ -266,15 +254,16 @@ pub rewritten-accepted : (s t : List ℕ) (lent n : ℕ) → Bytes s → rewrite
 rewritten-accepted s t lent n bytes r =
     let g = rewriting-of s t lent n r in
     let e = g .accepted in
-    let b = new-body (localsOf s) (refsOf s) (codeOf s) (sheetInfo s) (accepted-body s bytes e) (heading s bytes e .refs) (heading s bytes e .locals) (g .fit) in
-    let again : checkSheet (newSheet s) ≡ Accepted = accepted-again s e (newCode s) b in
+    let old = heading s bytes e in
+    let b = new-body (localsOf s) (refsOf s) (codeOf s) (sheetInfo s) (accepted-body s bytes e) (old .refs) (old .locals) (g .fit) in
+    let again : checkSheet (newSheet s) ≡ Accepted = accepted-again s old (newCode s) b in
     subst (AcceptedRewriting s) (g .is) (record {
       bytes = by-small _ (sheet-small (headingRest s) (newCode s) (small-take (blockBytes - 6) (drop 6 s) (small-drop 6 s (small-by s (λ i h. bytes .each i)))) (λ r i. let p = in-getD (newCode s) r nop i in subst Encodes (p .2) (b .encodes (p .0) (p .1))));
       accepted = again;
-      code = same-code s e (newCode s) b;
+      code = same-code s old (newCode s) b;
       some = omega (arith, accepted-valid _ again .count, accepted-valid _ again .some);
-      locals = same-locals s e (newCode s) b;
-      users = same-users s e (newCode s) b;
-      params = same-params s e (newCode s) b;
-      refs = same-refs s e (newCode s) b;
+      locals = same-locals s old (newCode s) b;
+      users = same-users s old (newCode s) b;
+      params = same-params s old (newCode s) b;
+      refs = same-refs s old (newCode s) b;
     })

@@ -2,14 +2,13 @@
 use mathlib.Core.Path.{_≡_}
 use mathlib.Core.Bool.{Bool, _||_, _&&_}
 use mathlib.Core.List.{List}
-use Prim.Native.Nat.{ℕ, suc, _-_, _*_, _≤_}
+use Prim.Native.Nat.{ℕ, suc}
 use lib.Dec.{eqb, leb}
-use lib.ListN.{length, replicate}
-use Rattle.base.specs.Sizes.{maxNumber, maxInstructions, maxBlocks}
+use lib.ListN.{length}
+use Rattle.base.specs.Sizes.{maxNumber, maxInstructions}
 use Rattle.base.specs.Refusals.{Verdict, check, whole, _then_, Reply, Done, reply, resultOf, answerOf, outputAfter}
 use Rattle.base.specs.declared.Answer.{Answer}
 use Rattle.sheet.specs.Layout.{refsOf, codeOf}
-use Rattle.sheet_writer.specs.Written.{bodyBytes}
 use Rattle.livevar_analysis.specs.Analysis.{infosOf}
 use Rattle.livevar_transform.specs.declared.plan.Next.{Next}
 use Rattle.livevar_transform.specs.Rewrite.{sheetInfo, newCode, newSheet, numbersFit}
@@ -36,9 +35,3 @@ pub record RewriteAnswers (s before : List ℕ) (r : Answer) (after : List ℕ) 
 -- no number is used up between these, or those behind are at most one above the highest
 abbrev pub fitBetween : Next → Next → Bool
 fitBetween first last = eqb (first .attr) (last .attr) || (leb (last .label) (suc maxNumber) && leb (last .attr) (suc maxNumber))
-
--- a slice of zeros with room for the records of every block of the longest sheet
-pub record Blank (flat : List ℕ) : Type 0 where
-  pub size : ℕ
-  pub is : flat ≡ replicate size 0
-  pub room : bodyBytes * (maxBlocks - 1) ≤ size

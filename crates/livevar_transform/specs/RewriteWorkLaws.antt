@@ -1,21 +1,18 @@
 -- When the rewriting worker gives refusals 10 and 11, and what it answers. Assumes nothing.
 use mathlib.Core.Path.{_≡_, refl, sym, ap, ap₂, _∙_}
-use mathlib.Core.Bool.{Bool, true, false}
+use mathlib.Core.Bool.{Bool}
 use mathlib.Core.List.{List, _++_}
-use Prim.Native.Nat.{ℕ, _+_, _-_, _*_, _≤_, _<_}
-use native.Mathlib.Omega.{arith}
+use Prim.Native.Nat.{ℕ, _+_, _-_, _*_, _≤_}
 use lib.Dec.{leb}
-use lib.ListN.{length, drop, length-replicate}
-use Rattle.base.specs.Sizes.{refsAt, setBytes, maxInstructions, maxBlocks}
+use lib.ListN.{length, drop}
+use Rattle.base.specs.Sizes.{refsAt, setBytes, maxInstructions}
 use Rattle.base.specs.Bytes.{number, part}
 use Rattle.base.specs.Refusals.{numberOf, placeOf, Verdict, Accepted, Refused, Done, reply}
 use Rattle.base.specs.ReplyLaws.{reply-refused, reply-done, refuses, done-result, done-output}
 use Rattle.base.specs.declared.Refusal.{Refusal}
 use Rattle.base.specs.declared.Answer.the-variants as answer
-use Rattle.stackless_bytecode.specs.declared.Bytecode.{Bytecode}
 use Rattle.sheet.specs.Layout.{headingRest, refsOf, codeOf, sheetOf}
-use Rattle.sheet_writer.specs.Written.{placed, bodyBytes, Holds, SheetWritten}
-use Rattle.sheet_writer.specs.SheetLaws.{few-blocks}
+use Rattle.sheet_writer.specs.Written.{SheetWritten}
 use Rattle.livevar_analysis.specs.Analysis.{infosOf}
 use Rattle.livevar_transform.specs.declared.plan.Next.{Next}
 use Rattle.livevar_transform.specs.declared.plan.Counts.{Counts}
@@ -24,7 +21,7 @@ use Rattle.livevar_transform.specs.Plan.{Ready, PlanRoom, Planned, PlanT
 use Rattle.livevar_transform.specs.PlanLaws.{size, merged-next, fate-merged}
 use Rattle.livevar_transform.specs.NumberLaws.{length-is, written-is}
 use Rattle.livevar_transform.specs.PlannedLaws.{code-is, fit-is}
-use Rattle.livevar_transform.specs.RewriteWork.{Asked, checkNew, acceptedReply, RewriteAnswers, fitBetween, Blank}
+use Rattle.livevar_transform.specs.RewriteWork.{Asked, checkNew, acceptedReply, RewriteAnswers, fitBetween}
 
 -- ---- the plan of what is asked, and the first numbers
 
@@ -76,15 +73,3 @@ module _ {s targets info : List ℕ} {n refs : ℕ} {fates lost : List ℕ} {fir
         let r : acceptedReply s ≡ Done (length (newSheet s)) (newSheet s) = reply-is ∙ reply-done _ e in
         let same = ap (sheetOf (headingRest s)) new-is in
         record { result = done-result (w .long ∙ ap length same) r; written = done-output before refl r (w .is ∙ ap (λ (t : List ℕ). t ++ drop (length t) before) same) }
-
--- ---- the records of the new code
-
-pub blank-long : {flat : List ℕ} → Blank flat → bodyBytes * (maxBlocks - 1) ≤ length flat
-blank-long b = omega (arith, ap length (b .is), length-replicate {A = ℕ} (b .size) 0, b .room)
-
-pub blank-holds : (code : List Bytecode) (before after : List ℕ) → Blank before → length code ≤ maxInstructions → after ≡ placed code before → Holds after code
-blank-holds code before after b l e = record {
-  size = b .size;
-  is = e ∙ ap (placed code) (b .is);
-  room = omega (arith, b .room, few-blocks (length code) l);
-}

@@ -8,6 +8,7 @@ use agreement::dying_agrees;
 use agreement::flow_agrees;
 use agreement::in_use_agrees;
 use agreement::live_agrees;
+use agreement::renumber_agrees;
 use agreement::rewrite_agrees;
 use sheet::reader::u32_at;
 use stored_cases::packed::FILL;
@@ -88,6 +89,14 @@ fn ask_rewrite(sheet: &[u8], lent: usize, result: u64, want: &[u8]) -> Came {
     compared(rewrite_agrees(sheet, lent, result, want, &mut out))
 }
 
+fn ask_renumber(sheet: &[u8], lent: usize, result: u64, want: &[u8]) -> Came {
+    if lent > ROOM {
+        return Came::Damaged;
+    }
+    let mut out = [FILL; ROOM];
+    compared(renumber_agrees(sheet, lent, result, want, &mut out))
+}
+
 // In use, or conditional, of the node in four bytes.
 fn ask_node(conditional: bool, graph: &[u8], asked: &[u8], result: u64) -> Came {
     let mut triples = [0u32; TRIPLE_NUMBERS];
@@ -154,6 +163,7 @@ pub fn ask(op: u8, input: &[u8], second: &[u8], lent: usize, result: u64, want: 
         5 => ask_node(true, input, second, result),
         6 => ask_dying(input, second, lent, result, want),
         7 => compared(check_agrees(input, result)),
+        8 => ask_renumber(input, lent, result, want),
         _ => Came::Damaged,
     }
 }

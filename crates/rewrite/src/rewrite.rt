@@ -5,16 +5,15 @@ ghost use lib.ListN.{length, take};
 ghost use Rattle.base.specs.Sizes.{maxBytes, maxInstructions};
 ghost use Rattle.base.specs.Refusals.{verdictOf, resultOf, answerOf, outputAfter};
 ghost use Rattle.sheet.specs.Layout.{headingRest, codeOf, sheetOf};
-ghost use Rattle.sheet_writer.specs.Written.{SheetWritten};
+ghost use Rattle.sheet_writer.specs.Written.{Blank, SheetWritten};
 ghost use Rattle.stackless_control_flow_graph.specs.Arrays.{CheckedSheet};
 ghost use Rattle.livevar_transform.specs.Rewrite.{rewriteReply};
 ghost use Rattle.livevar_transform.specs.RewriteAccepted.{AcceptedRewriting};
 ghost use Rattle.livevar_transform.specs.Plan.{PlanRoom, PlanTables, Fitting, LowNext, codeBy};
-ghost use Rattle.livevar_transform.specs.RewriteWork.{checkNew, Asked, RewriteAnswers, Blank, fitBetween};
+ghost use Rattle.livevar_transform.specs.RewriteWork.{checkNew, Asked, RewriteAnswers, fitBetween};
 use base::Answer;
 use base::Checked;
 use base::LIVE_BYTES;
-use base::MAX_BLOCKS;
 use base::MAX_BYTES;
 use base::MAX_INSTRUCTIONS;
 use base::MAX_NUMBER;
@@ -30,12 +29,9 @@ use livevar_transform::plan::first_numbers;
 use livevar_transform::plan::set_in;
 use sheet::reader::u16_at;
 use sheet_checks::check::check_into;
-use sheet_writer::whole::BODY_BYTES;
+use sheet_writer::whole::FLAT_BYTES;
 use sheet_writer::whole::write_sheet;
 use transform_code::write::transform_code;
-
-// The records of the longest sheet.
-const FLAT_BYTES: usize = BODY_BYTES * (MAX_BLOCKS - 1);
 
 // A set for each edge.
 const LOST_WORDS: usize = SET_WORDS * SLOTS;

@@ -1,4 +1,4 @@
--- A sheet with an accepted sheet's heading and other code is accepted where the code meets checks 4 to 8. Assumes nothing.
+-- A sheet with a heading that keeps to its layout, and any code, is accepted where the code meets checks 4 to 8. Assumes nothing.
 use mathlib.Core.Path.{_≡_, refl, sym, ap, ap₂, _∙_, subst}
 use mathlib.Core.Bool.{Bool, true, false, cond, _||_, _&&_}
 use mathlib.Core.List.{List}
@@ -20,18 +20,14 @@ use Rattle.stackless_bytecode.specs.Kinds.{at}
 use Rattle.sheet.specs.Checks.{lengthOk, blockOk, recordOk, placeOk, checkForm, checkCode, checkSheet}
 use Rattle.base.specs.JoinLaws.{by-lt}
 use Rattle.base.specs.SearchLaws.{all-none}
-use Rattle.sheet.specs.CheckLaws.{clear}
 use Rattle.sheet_writer.specs.EncodeLaws.{record-again, sheet-length, first-block, later-block, record-part, zero-part, count-again, rest-again, code-again, heading-number, heading-check, later-number, later-check, later-zeros}
 use Rattle.base.specs.PartLaws.{same-part}
-use Rattle.sheet.specs.AcceptLaws.{and-both, HeadingLayout, is-heading, heading-is}
+use Rattle.sheet.specs.AcceptLaws.{and-both, HeadingLayout, heading-is}
 use Rattle.sheet_writer.specs.BodyLaws.{both-accept, Body, code-accepted}
 
 -- ---- the whole sheet
 
-module _ (s : List ℕ) (e : checkSheet s ≡ Accepted) (code : List Bytecode) (body : Body (localsOf s) code) where
-  old : HeadingLayout s
-  old = is-heading s (clear s e .three)
-
+module _ (s : List ℕ) (old : HeadingLayout s) (code : List Bytecode) (body : Body (localsOf s) code) where
   abbrev sheet : List ℕ
   sheet = sheetOf (headingRest s) code
 

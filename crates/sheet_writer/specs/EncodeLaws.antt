@@ -319,33 +319,29 @@ small-zeros (suc n) = small-cons (omega arith) (small-zeros n)
 small-gather : {A : Type 0} (f : A → List ℕ) (xs : List A) → ((x : A) → List·Memᴰ x xs → Small (f x)) → Small (gather f xs)
 small-gather f xs h = record { each = λ y i. let r = in-gather f xs y i in h (r .0) (r .1) .each y (r .2) }
 
-small-two : (x : ℕ) → Small (bytesOf 2 x)
+pub small-bytes : (n x : ℕ) → Small (bytesOf n x)
 unfolding bytesOf
-small-two x = small-cons (mod-lt x (omega arith)) (small-cons (mod-lt (x / 256) (omega arith)) small-nil)
+small-bytes zero x = small-nil
+small-bytes (suc n) x = small-cons (mod-lt x (omega arith)) (small-bytes n (x / 256))
 
-small-four : (x : ℕ) → Small (bytesOf 4 x)
-unfolding bytesOf
-small-four x =
-    small-cons (mod-lt x (omega arith)) (small-cons (mod-lt (x / 256) (omega arith)) (small-cons (mod-lt (x / 256 / 256) (omega arith)) (small-cons (mod-lt (x / 256 / 256 / 256) (omega arith)) small-nil)))
-
-small-padded : (xs : List ℕ) → Small xs → Small (padded xs)
+pub small-padded : (xs : List ℕ) → Small xs → Small (padded xs)
 unfolding padded
 small-padded xs s = small-take listPlaces (xs ++ replicate listPlaces 0) (small-append s (small-zeros listPlaces))
 
 pub record-small : (r : Bytecode) → Encodes r → Small (encode r)
 unfolding encode
 record-small r e =
-    small-append (small-append (small-append (small-append (small-cons (e .kind) (small-cons (e .sub) (small-append (small-append (small-two (r .attr)) (small-two (r .one))) (small-two (r .two)))))
+    small-append (small-append (small-append (small-append (small-cons (e .kind) (small-cons (e .sub) (small-append (small-append (small-bytes 2 (r .attr)) (small-bytes 2 (r .one))) (small-bytes 2 (r .two)))))
     (small-cons (e .ndst) (small-cons (e .nsrc) (small-cons (e .flag) (small-cons (e .abort) small-nil)))))
-    (small-padded (r .dsts) (e .dsts-small))) (small-padded (r .srcs) (e .srcs-small))) (small-four (r .payload))
+    (small-padded (r .dsts) (e .dsts-small))) (small-padded (r .srcs) (e .srcs-small))) (small-bytes 4 (r .payload))
 
 small-block : (b : ℕ) (body : List ℕ) → Small body → Small (blockOf b body)
 unfolding blockOf
-small-block b body s = small-append (small-append (small-two b) (small-two ((sum (bytesOf 2 b) + sum body) % 65536))) s
+small-block b body s = small-append (small-append (small-bytes 2 b) (small-bytes 2 ((sum (bytesOf 2 b) + sum body) % 65536))) s
 
 pub sheet-small : (rest : List ℕ) (code : List Bytecode) → Small rest → ((r : Bytecode) → List·Memᴰ r code → Encodes r) → Small (sheetOf rest code)
 unfolding sheetOf bodyOf
 sheet-small rest code s enc =
-    small-append (small-block 0 (bytesOf 2 (length code) ++ rest) (small-append (small-two (length code)) s))
+    small-append (small-block 0 (bytesOf 2 (length code) ++ rest) (small-append (small-bytes 2 (length code)) s))
     (small-gather (λ b. blockOf (1 + b) (bodyOf code b)) (tab (recordBlocks (length code)) 0 (λ b. b))
     (λ b i. small-block (1 + b) (bodyOf code b) (small-take (blockBytes - 4) _ (small-append (small-append (small-zeros gapBytes) (small-gather encode (take blockRecords (drop (blockRecords * b) code)) (λ r j. record-small r (enc r (in-drop (blockRecords * b) code (in-take blockRecords (drop (blockRecords * b) code) j)))))) (small-zeros bodyBytes)))))

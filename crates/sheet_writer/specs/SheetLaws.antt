@@ -12,11 +12,11 @@ use Rattle.base.specs.Lists.{tab, sum, gather, joins}
 use Rattle.base.specs.Bytes.{bytesOf, part}
 use Rattle.base.specs.ListLaws.{copies-at, tab-snoc}
 use Rattle.base.specs.JoinLaws.{by-lt, getD-behind}
-use Rattle.base.specs.WriteLaws.{part-more, length-kept, wrote, wrote-more, wrote-all}
+use Rattle.base.specs.WriteLaws.{part-more, wrote, wrote-more, wrote-all}
 use Rattle.stackless_bytecode.specs.declared.Bytecode.{Bytecode}
 use Rattle.sheet.specs.Layout.{headingRest, encode, recordBlocks, blockOf, bodyOf, sheetOf}
 use Rattle.base.specs.GrowLaws.{gather-append}
-use Rattle.sheet_writer.specs.Written.{placed, bodyBytes, gapBytes, laterOf, Blocks, Holds}
+use Rattle.sheet_writer.specs.Written.{placed, bodyBytes, gapBytes, laterOf, Blocks, Holds, Blank}
 use Rattle.sheet_writer.specs.EncodeLaws.{sheet-length}
 use Rattle.sheet_writer.specs.RecordsLaws.{records-length, placed-length, tail-is}
 
@@ -257,3 +257,15 @@ module _ (rest : List ℕ) (code : List Bytecode) (flat : List ℕ) (h : Holds f
 pub few-blocks : (n : ℕ) → n ≤ maxInstructions → recordBlocks n < maxBlocks
 unfolding recordBlocks
 few-blocks n h = omega arith
+
+-- ---- zeros that take the records
+
+pub blank-long : {flat : List ℕ} → Blank flat → bodyBytes * (maxBlocks - 1) ≤ length flat
+blank-long b = omega (arith, ap length (b .is), length-replicate {A = ℕ} (b .size) 0, b .room)
+
+pub blank-holds : (code : List Bytecode) (before after : List ℕ) → Blank before → length code ≤ maxInstructions → after ≡ placed code before → Holds after code
+blank-holds code before after b l e = record {
+  size = b .size;
+  is = e ∙ ap (placed code) (b .is);
+  room = omega (arith, b .room, few-blocks (length code) l);
+}

@@ -22,9 +22,8 @@ use Rattle.sheet.specs.Checks.{blockOk, recordOk, placeOk, checkSheet}
 use Rattle.sheet.specs.CheckLaws.{clear, code-length}
 use Rattle.sheet.specs.Shaped.{code-at}
 use Rattle.sheet_writer.specs.EncodeLaws.{Encodes, padded-full, small-take, small-drop, sheet-small, sheet-length, record-part, rest-again, count-again}
-use Rattle.sheet.specs.AcceptLaws.{is-heading}
 use Rattle.sheet_writer.specs.AgainLaws.{accepted-again}
-use Rattle.sheet_writer.specs.BodyLaws.{Body, small-by, by-small, shaped, part-length, accepted-body}
+use Rattle.sheet_writer.specs.BodyLaws.{Body, small-by, by-small, heading, shaped, part-length, accepted-body}
 
 -- ---- one record
 
@@ -136,7 +135,7 @@ zeros-at (x ∷ xs) (suc i) e = zeros-at xs i (and-true (eqb x 0) (zeros xs) e .
 
 module _ (s : List ℕ) (bytes : Bytes s) (e : checkSheet s ≡ Accepted) where
   size : length s ≡ blockBytes * (1 + recordBlocks (countOf s))
-  size = is-heading s (clear s e .three) .size
+  size = heading s bytes e .size
 
   block-size : (q : ℕ) → blockBytes * q < length s → length (blockAt s q) ≡ blockBytes
   unfolding blockAt
@@ -234,7 +233,7 @@ module _ (s : List ℕ) (bytes : Bytes s) (e : checkSheet s ≡ Accepted) where
   full = length-take (blockBytes - 6) (drop 6 s) ∙ (omega (arith, length-drop 6 s, size s bytes e))
 
   again-accepted : checkSheet again ≡ Accepted
-  again-accepted = accepted-again s e (codeOf s) body
+  again-accepted = accepted-again s (heading s bytes e) (codeOf s) body
 
   again-bytes : Bytes again
   again-bytes =

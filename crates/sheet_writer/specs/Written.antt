@@ -3,7 +3,7 @@ use mathlib.Core.Path.{_≡_}
 use mathlib.Core.List.{List, [], _∷_, _++_}
 use Prim.Native.Nat.{ℕ, _+_, _-_, _*_, _/_, _%_, _≤_}
 use lib.ListN.{length, drop, replicate}
-use Rattle.base.specs.Sizes.{blockBytes, recordsFrom, recordBytes}
+use Rattle.base.specs.Sizes.{blockBytes, recordsFrom, recordBytes, maxBlocks}
 use Rattle.base.specs.Lists.{gather, joins}
 use Rattle.base.specs.Bytes.{part}
 use Rattle.stackless_bytecode.specs.declared.Bytecode.{Bytecode}
@@ -47,6 +47,12 @@ pub record Holds (flat : List ℕ) (code : List Bytecode) : Type 0 where
   pub size : ℕ
   pub is : flat ≡ placed code (replicate size 0)
   pub room : bodyBytes * recordBlocks (length code) ≤ size
+
+-- a slice of zeros with room for the records of every block of the longest sheet
+pub record Blank (flat : List ℕ) : Type 0 where
+  pub size : ℕ
+  pub is : flat ≡ replicate size 0
+  pub room : bodyBytes * (maxBlocks - 1) ≤ size
 
 -- the sheet t stands at the front of what was `before`, and r is its length
 pub record SheetWritten (t before : List ℕ) (r : ℕ) (after : List ℕ) : Type 0 where

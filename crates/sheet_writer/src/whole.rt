@@ -1,15 +1,16 @@
 // A sheet out of its heading and its records: each block handed on as the part of the sheet that it is. Assumes nothing.
 ghost use mathlib.Core.Path.{_≡_};
 ghost use mathlib.Core.List.{List, _++_};
-ghost use Prim.Native.Nat.{_-_, _*_, _<_, _≤_};
+ghost use Prim.Native.Nat.{_+_, _-_, _*_, _<_, _≤_};
 ghost use lib.ListN.{length, drop, replicate};
-ghost use Rattle.base.specs.Sizes.{blockBytes, maxBytes, maxBlocks, maxInstructions, maxNumber};
+ghost use Rattle.base.specs.Sizes.{blockBytes, maxBlocks, maxInstructions, maxNumber};
 ghost use Rattle.base.specs.Bytes.{bytesOf};
 ghost use Rattle.stackless_bytecode.specs.declared.Bytecode.{Bytecode};
 ghost use Rattle.sheet.specs.Layout.{headingRest, blockOf, recordBlocks, sheetOf};
 ghost use Rattle.sheet_writer.specs.Written.{bodyBytes, gapBytes, Blocks, Holds, SheetWritten};
 use crate::writer::put_u16;
 use base::BLOCK_BYTES;
+use base::MAX_BLOCKS;
 use base::RECORDS_FROM;
 use sheet_form::blocks::record_blocks;
 use sheet_form::blocks::total;
@@ -17,9 +18,13 @@ use sheet_form::blocks::total;
 // The bytes of a block's records, and the zeros before them.
 pub const BODY_BYTES: usize = BLOCK_BYTES - RECORDS_FROM;
 
+// Those of the longest sheet.
+pub const FLAT_BYTES: usize = BODY_BYTES * (MAX_BLOCKS - 1);
+
 const GAP_BYTES: usize = RECORDS_FROM - 4;
 
-fn copy(from: &[u8], to: &mut [u8])
+// As many bytes.
+pub fn copy(from: &[u8], to: &mut [u8])
     requires { ⌜ length (now to) ≡ length (now from) ⌝ }
     ensures { λ _. ⌜ now (to .exit) ≡ now (from .entry) ⌝ }
 {
@@ -81,7 +86,7 @@ fn put_all_later(flat: &[u8], m: usize, out: &mut [u8])
 
 // The sheet with the heading of s and the n instructions whose records stand in `flat`; its length.
 pub fn write_sheet(s: &[u8], n: usize, flat: &[u8], out: &mut [u8]) -> u32
-    requires { ⌜ (blockBytes ≤ length (now s)) × (n ≤ maxInstructions) × (bodyBytes * recordBlocks n ≤ length (now flat)) × (maxBytes ≤ length (now out)) ⌝ }
+    requires { ⌜ (blockBytes ≤ length (now s)) × (n ≤ maxInstructions) × (bodyBytes * recordBlocks n ≤ length (now flat)) × (blockBytes * (1 + recordBlocks n) ≤ length (now out)) ⌝ }
     ensures { λ r. ⌜ ((code : List Bytecode) → n ≡ length code → Holds (now (flat .entry)) code → SheetWritten (sheetOf (headingRest (now (s .entry))) code) (now (out .entry)) r (now (out .exit))) ⌝ }
 {
     let m = record_blocks(n);

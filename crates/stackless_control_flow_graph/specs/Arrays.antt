@@ -21,7 +21,8 @@ use Prim.Native.Nat.{ℕ, suc, _+_, _*_, _≤_, _<_}
 use lib.Dec.{eqb}
 use lib.ListN.{getD, set, length, take, replicate}
 use Rattle.base.specs.Sizes.{maxInstructions, recordBytes}
-use Rattle.base.specs.Lists.{keep, has, over, firsts, Distinct}
+use Rattle.base.specs.Lists.{keep, over}
+use Rattle.base.specs.Numbering.{numberIn}
 use Rattle.base.specs.Refusals.{Accepted}
 use Rattle.stackless_bytecode.specs.declared.Bytecode.{Bytecode}
 use Rattle.stackless_bytecode.specs.Kinds.{at, isExit, isBranch, fallsThrough, branchDests}
@@ -31,7 +32,7 @@ use Rattle.sheet.specs.Layout.{countOf, recordStart, instructionAt, codeOf}
 use Rattle.sheet.specs.Checks.{checkSheet}
 use Rattle.stackless_control_flow_graph.specs.declared.Three.{Three}
 use Rattle.stackless_control_flow_graph.specs.declared.Successors.{Successors}
-use Rattle.stackless_control_flow_graph.specs.Blocks.{starts, lowers, blocksOf, upperOf, keyed, keyOf}
+use Rattle.stackless_control_flow_graph.specs.Blocks.{starts, lowers, blocksOf, upperOf, keyed}
 
 -- ---- the successors of an offset
 
@@ -109,21 +110,13 @@ pub record BlocksFound (code : List Bytecode) (m : ℕ) (goes ls uppers : List �
 abbrev pub succKeysIn : List ℕ → List ℕ → ℕ → List ℕ
 succKeysIn key goes u = map (λ o. getD key o 0) (succsIn goes u)
 
+-- the first key of a block
+abbrev pub firstKey : ℕ
+firstKey = 2
+
 -- the key of offset o where `ks` have keys, and 0 where it has none
-unfoldable pub keyIn : List ℕ → ℕ → ℕ
-keyIn ks o = cond (has o ks) (keyOf ks o) 0
-
--- the first c of `lowerOfKey` have keys, and each offset has its own in `keys`
-pub record Keys (keys lowerOfKey : List ℕ) (c : ℕ) : Type 0 where
-  pub each : (o : ℕ) → o < length keys → getD keys o 0 ≡ keyIn (take c lowerOfKey) o
-  pub once : Distinct (take c lowerOfKey)
-  pub within : Within (length keys) (take c lowerOfKey)
-  pub inside : c ≤ length lowerOfKey
-
--- keys for these offsets, in their order, to those that have none yet
-pub record Gives (xs key by : List ℕ) (c : ℕ) (key′ by′ : List ℕ) (r : ℕ) : Type 0 where
-  pub keys : Keys key′ by′ r
-  pub front : take r by′ ≡ firsts (take c by) xs
+abbrev pub keyIn : List ℕ → ℕ → ℕ
+keyIn ks o = numberIn firstKey ks o
 
 -- offset u has its two places, and its successors are offsets below n
 pub record Near (n : ℕ) (goes : List ℕ) (u : ℕ) : Type 0 where

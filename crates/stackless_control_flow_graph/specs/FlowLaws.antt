@@ -7,6 +7,8 @@ use native.Mathlib.Nat.{le-antisymm}
 use native.Mathlib.Omega.{arith}
 use lib.ListN.{getD, length, take, length-take}
 use lib.Seq.{getD-take}
+use Rattle.base.specs.NumberingLaws.{number-none}
+use Rattle.base.specs.Numbering.{Gives}
 use Rattle.base.specs.Lists.{gather, has, firsts, Distinct}
 use Rattle.base.specs.ListLaws.{by-test, keep-in, in-keep, getD-in, has-in, in-has, place-lt}
 use Rattle.base.specs.JoinLaws.{by-lt}
@@ -17,10 +19,10 @@ use Rattle.stackless_bytecode.specs.Sound.{Sound}
 use Rattle.sheet.specs.Layout.{instructionAt}
 use Rattle.stackless_control_flow_graph.specs.Blocks.{starts, lowers, blocksOf, upperOf, keyed, keyOf, succKeys, row, flowTable}
 use Rattle.stackless_control_flow_graph.specs.BlockLaws.{Start, succs-start, upper-lt, upper-last, keyed-in, in-keyed, keyed-distinct}
-use Rattle.stackless_control_flow_graph.specs.Arrays.{succsIn, BlocksFound, keyIn, Gives, takers, Near, BlockArrays, Numbered, succKeysIn, withExit, rowFrom, rowIn}
+use Rattle.stackless_control_flow_graph.specs.Arrays.{succsIn, BlocksFound, keyIn, firstKey, takers, Near, BlockArrays, Numbered, succKeysIn, withExit, rowFrom, rowIn}
 use Rattle.base.specs.GrowLaws.{getD-past, gather-agree, map-agree, shorter, keep-distinct}
 use Rattle.stackless_control_flow_graph.specs.StartLaws.{succs-within}
-use Rattle.stackless_control_flow_graph.specs.KeyLaws.{key-none, key-some, near}
+use Rattle.stackless_control_flow_graph.specs.KeyLaws.{key-some, near}
 
 -- ---- blocks
 
@@ -83,11 +85,11 @@ module _ (code : List Bytecode) (sound : Sound code) (m : ℕ) (goes ls uppers :
       ap (gather (takers goes uppers)) (cut .front)
       ∙ gather-agree (takers goes uppers) (λ l. successors code (upperOf code l) ++ (l ∷ [])) (lowers code) (λ l i. unfold takers in ap (λ (x : List ℕ). x ++ (l ∷ [])) (block-next l (in-lowers code l i)))
 
-  pub cut-numbered : (key₀ order₀ key order : List ℕ) (r : ℕ) → Gives (gather (takers goes uppers) (take m ls)) key₀ order₀ 0 key order r → Numbered code key order r
+  pub cut-numbered : (key₀ order₀ key order : List ℕ) (r : ℕ) → Gives firstKey (gather (takers goes uppers) (take m ls)) key₀ order₀ 0 key order r → Numbered code key order r
   cut-numbered key₀ order₀ key order r g = record {
     front = front;
-    count = omega (arith, ap length front, length-take r order, g .keys .inside, keys-blocks code sound);
-    each = λ o h. g .keys .each o h ∙ ap (λ (l : List ℕ). keyIn l o) front;
+    count = omega (arith, ap length front, length-take r order, g .given .inside, keys-blocks code sound);
+    each = λ o h. g .given .each o h ∙ ap (λ (l : List ℕ). keyIn l o) front;
   }
     where
       front : take r order ≡ keyed code
@@ -126,7 +128,7 @@ module _ (code : List Bytecode) (sound : Sound code) (m : ℕ) (goes ls uppers :
     pub keys-low : (o : ℕ) → getD key o 0 < r + 2
     keys-low o =
         by-lt o (length key) (λ h. by-test (λ b. has o (keyed code) ≡ b → getD key o 0 < r + 2) (has o (keyed code))
-        (λ e q. omega (arith, numbered .each o h, key-some (keyed code) o e, key-below o e)) (λ e q. omega (arith, numbered .each o h, key-none (keyed code) o e)) refl)
+        (λ e q. omega (arith, numbered .each o h, key-some (keyed code) o e, key-below o e)) (λ e q. omega (arith, numbered .each o h, number-none firstKey (keyed code) o e)) refl)
         (λ h. omega (arith, getD-past key o 0 h))
       where
         key-below : (x : ℕ) → has x (keyed code) ≡ true → keyOf (keyed code) x < r + 2

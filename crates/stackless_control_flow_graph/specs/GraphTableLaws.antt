@@ -5,13 +5,14 @@ use Prim.Native.Nat.{ℕ, _+_, _≤_, _<_}
 use native.Mathlib.Omega.{arith}
 use lib.ListN.{getD, length, take}
 use lib.Seq.{getD-take}
+use Rattle.base.specs.Numbering.{Gives}
 use Rattle.base.specs.Sizes.{maxInstructions}
 use Rattle.base.specs.Lists.{gather}
 use Rattle.stackless_bytecode.specs.declared.Bytecode.{Bytecode}
 use Rattle.stackless_bytecode.specs.Sound.{Sound}
 use Rattle.sheet.specs.Layout.{codeOf}
 use Rattle.stackless_control_flow_graph.specs.Blocks.{upperOf, keyed}
-use Rattle.stackless_control_flow_graph.specs.Arrays.{CheckedSheet, Gives, takers, BlockArrays, BlocksFound, Numbered, keyIn}
+use Rattle.stackless_control_flow_graph.specs.Arrays.{CheckedSheet, firstKey, takers, BlockArrays, BlocksFound, Numbered, keyIn}
 use Rattle.stackless_control_flow_graph.specs.Sorting.{Leads}
 use Rattle.stackless_control_flow_graph.specs.Graph.{OffsetKeys, GraphTables}
 use Rattle.stackless_control_flow_graph.specs.FlowLaws.{keys-blocks, cut-ready, cut-numbered, order-start, order-ready, keys-low}
@@ -32,7 +33,7 @@ module _ {s : List ℕ} {n : ℕ} {targets : List ℕ} (checked : CheckedSheet s
   pub found-ready : {n : ℕ} → n ≡ maxInstructions → BlockArrays goes ls uppers m n
   found-ready e = cut-ready (codeOf s) (checked-sound checked) m goes ls uppers cut _ (omega (arith, few))
 
-  pub all-numbered : {keys₀ lows₀ keys lows : List ℕ} {r : ℕ} → Gives (gather (takers goes uppers) (take m ls)) keys₀ lows₀ 0 keys lows r → Numbered (codeOf s) keys lows m
+  pub all-numbered : {keys₀ lows₀ keys lows : List ℕ} {r : ℕ} → Gives firstKey (gather (takers goes uppers) (take m ls)) keys₀ lows₀ 0 keys lows r → Numbered (codeOf s) keys lows m
   all-numbered gives =
       let num = cut-numbered (codeOf s) (checked-sound checked) m goes ls uppers cut _ _ _ _ _ gives in
       subst (Numbered (codeOf s) _ _) (num .count ∙ sym (cut .count)) num

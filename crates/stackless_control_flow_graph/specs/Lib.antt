@@ -23,3 +23,4 @@ pub mod SlotLaws
 pub mod LeadLaws
 pub mod SpreadLaws
 pub mod GraphTableLaws
+pub mod AlikeLaws

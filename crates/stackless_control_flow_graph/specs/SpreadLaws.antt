@@ -8,14 +8,15 @@ use borrow.Author.Tests.{eq-eqb, ne-eqb}
 use lib.Dec.{eqb}
 use lib.ListN.{getD, set, length}
 use lib.Seq.{getD-set-same, getD-set-other}
+use Rattle.base.specs.NumberingLaws.{number-none}
 use Rattle.base.specs.Lists.{has}
 use Rattle.base.specs.ListLaws.{by-test, by-eq, in-has, has-in}
 use Rattle.stackless_bytecode.specs.declared.Bytecode.{Bytecode}
 use Rattle.stackless_bytecode.specs.Sound.{Sound}
 use Rattle.stackless_control_flow_graph.specs.Blocks.{starts, lowerOf, keyed, keyOf}
 use Rattle.stackless_control_flow_graph.specs.BlockLaws.{lower-start, lower-next, keyed-in, in-keyed}
-use Rattle.stackless_control_flow_graph.specs.Arrays.{keyIn}
-use Rattle.stackless_control_flow_graph.specs.KeyLaws.{key-none, key-some, key-pos}
+use Rattle.stackless_control_flow_graph.specs.Arrays.{firstKey, keyIn}
+use Rattle.stackless_control_flow_graph.specs.KeyLaws.{key-some, key-pos}
 
 module _ (code : List Bytecode) (sound : Sound code) (keys₀ : List ℕ) (numbered : (o : ℕ) → o < length code → getD keys₀ o 0 ≡ keyIn (keyed code) o) where
   -- the first k offsets have the keys of their blocks, the rest is as it was, and `last` is the key of the offset before k
@@ -41,7 +42,7 @@ module _ (code : List Bytecode) (sound : Sound code) (keys₀ : List ℕ) (numbe
     -- any other offset is in the block of the offset before
     inner : has k (keyed code) ≡ false → last′ ≡ keyOf (keyed code) (lowerOf code k)
     inner e =
-        is ∙ ap (λ (b : Bool). cond b last (getD keys k 0)) (eq-eqb (getD keys k 0) 0 (own ∙ key-none (keyed code) k e))
+        is ∙ ap (λ (b : Bool). cond b last (getD keys k 0)) (eq-eqb (getD keys k 0) 0 (own ∙ number-none firstKey (keyed code) k e))
         ∙ by-test (λ b. starts code k ≡ b → last ≡ keyOf (keyed code) (lowerOf code k)) (starts code k)
         (λ t q. absurd (true≢false (sym (in-has k (keyed code) (keyed-in code k (record { inside = inside; starts = t }))) ∙ e)))
         (λ f q. go k f refl) refl

@@ -7,19 +7,20 @@ ghost use lib.Dec.{eqb};
 ghost use lib.ListN.{length, getD, take};
 ghost use Rattle.base.specs.Lists.{gather};
 ghost use Rattle.base.specs.Sizes.{maxInstructions};
+ghost use Rattle.base.specs.Numbering.{Numbers, Gives};
 ghost use Rattle.stackless_bytecode.specs.declared.Bytecode.{Bytecode};
 ghost use Rattle.stackless_bytecode.specs.Sound.{Sound};
 ghost use Rattle.sheet.specs.Layout.{codeOf};
 ghost use Rattle.stackless_control_flow_graph.specs.Blocks.{keyed};
-ghost use Rattle.stackless_control_flow_graph.specs.Arrays.{noOffset, offsetIn, offsetsOf, threeOf, succsIn, succKeysIn, keyIn, Keys, Gives, Near, takers, BlockArrays, BlocksFound, Numbered, CheckedSheet};
+ghost use Rattle.stackless_control_flow_graph.specs.Arrays.{noOffset, offsetIn, offsetsOf, threeOf, succsIn, succKeysIn, firstKey, keyIn, Near, takers, BlockArrays, BlocksFound, Numbered, CheckedSheet};
 ghost use Rattle.stackless_control_flow_graph.specs.Graph.{OffsetKeys};
 use crate::Successors;
 use crate::Three;
 use crate::blocks::block_at;
 use crate::blocks::find_blocks;
 use crate::starts::NO_OFFSET;
+use base::numbering::give_number;
 use base::width::u16_to_usize;
-use base::width::usize_to_u16;
 
 // Stands for no successor.
 const NO_SUCCESSOR: usize = NO_OFFSET as usize;
@@ -32,18 +33,13 @@ const FIRST_KEY: usize = 2;
 
 // The next key to offset o, where it is one and has none yet; how many offsets have keys then.
 fn give_key(c: usize, o: usize, keys: &mut [u16], lower_of_key: &mut [u16]) -> usize
-    requires { ⌜ Keys (now keys) (now «lower_of_key») c × ((o ≡ noOffset → ⊥) → o < length (now keys)) × (length (now keys) ≤ length (now «lower_of_key»)) × (length (now keys) ≤ maxInstructions) ⌝ }
-    ensures { λ r. ⌜ Gives (offsetIn o) (now (keys .entry)) (now («lower_of_key» .entry)) c (now (keys .exit)) (now («lower_of_key» .exit)) r ⌝ }
+    requires { ⌜ Numbers firstKey (now keys) (now «lower_of_key») c × ((o ≡ noOffset → ⊥) → o < length (now keys)) × (length (now keys) ≤ length (now «lower_of_key»)) × (length (now keys) ≤ maxInstructions) ⌝ }
+    ensures { λ r. ⌜ Gives firstKey (offsetIn o) (now (keys .entry)) (now («lower_of_key» .entry)) c (now (keys .exit)) (now («lower_of_key» .exit)) r ⌝ }
 {
     if o == NO_SUCCESSOR {
         return c;
     }
-    if keys[o] != 0 {
-        return c;
-    }
-    keys[o] = usize_to_u16(c + FIRST_KEY);
-    lower_of_key[c] = usize_to_u16(o);
-    c + 1
+    give_number(FIRST_KEY, c, o, keys, lower_of_key)
 }
 
 // Keys for the block from l to u: its successors first, then the block.
@@ -55,8 +51,8 @@ fn number_block(
     keys: &mut [u16],
     lower_of_key: &mut [u16],
 ) -> usize
-    requires { ⌜ Keys (now keys) (now «lower_of_key») c × (l < length (now keys)) × Near (length (now keys)) (now goes) u × (length (now keys) ≤ length (now «lower_of_key»)) × (length (now keys) ≤ maxInstructions) ⌝ }
-    ensures { λ r. ⌜ Gives (succsIn (now (goes .entry)) u ++ (l ∷ [])) (now (keys .entry)) (now («lower_of_key» .entry)) c (now (keys .exit)) (now («lower_of_key» .exit)) r ⌝ }
+    requires { ⌜ Numbers firstKey (now keys) (now «lower_of_key») c × (l < length (now keys)) × Near (length (now keys)) (now goes) u × (length (now keys) ≤ length (now «lower_of_key»)) × (length (now keys) ≤ maxInstructions) ⌝ }
+    ensures { λ r. ⌜ Gives firstKey (succsIn (now (goes .entry)) u ++ (l ∷ [])) (now (keys .entry)) (now («lower_of_key» .entry)) c (now (keys .exit)) (now («lower_of_key» .exit)) r ⌝ }
 {
     let at = 2 * u;
     let first = u16_to_usize(goes[at]);
@@ -76,7 +72,7 @@ fn number_blocks(
     lower_of_key: &mut [u16],
 ) -> usize
     requires { ⌜ BlockArrays (now goes) (now lowers) (now uppers) m (length (now keys)) × ((o : ℕ) → getD (now keys) o 0 ≡ 0) × (length (now keys) ≤ length (now «lower_of_key»)) × (length (now keys) ≤ maxInstructions) ⌝ }
-    ensures { λ r. ⌜ Gives (gather (takers (now (goes .entry)) (now (uppers .entry))) (take m (now (lowers .entry)))) (now (keys .entry)) (now («lower_of_key» .entry)) 0 (now (keys .exit)) (now («lower_of_key» .exit)) r ⌝ }
+    ensures { λ r. ⌜ Gives firstKey (gather (takers (now (goes .entry)) (now (uppers .entry))) (take m (now (lowers .entry)))) (now (keys .entry)) (now («lower_of_key» .entry)) 0 (now (keys .exit)) (now («lower_of_key» .exit)) r ⌝ }
 {
     let mut c = 0;
     let mut b = 0;

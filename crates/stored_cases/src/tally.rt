@@ -9,16 +9,19 @@ pub enum Came {
     Damaged,
 }
 
+// One above the highest op.
+const OPS: usize = 9;
+
 // A count for each op, and behind them those of all cases, of differences, and of the cases made wrong and found.
-pub const COUNTS: usize = 12;
+pub const COUNTS: usize = OPS + 4;
 
-const CASES: usize = 8;
+const CASES: usize = OPS;
 
-const DIFFERENCES: usize = 9;
+const DIFFERENCES: usize = OPS + 1;
 
-const WRONG: usize = 10;
+const WRONG: usize = OPS + 2;
 
-const FOUND: usize = 11;
+const FOUND: usize = OPS + 3;
 
 fn add(counts: &mut [u32], i: usize) {
     if i < counts.len() {
@@ -95,6 +98,7 @@ pub fn print_counts(counts: &[u32]) {
     line(b"conditional ", get(counts, 5), b" graphs\n");
     line(b"dying ", get(counts, 6), b" graphs\n");
     line(b"check ", get(counts, 7), b" sheets\n");
+    line(b"renumber ", get(counts, 8), b" sheets\n");
     line(b"", get(counts, CASES), b" cases, ");
     line(b"", get(counts, DIFFERENCES), b" differences\n");
     line(b"", get(counts, WRONG), b" made wrong, ");

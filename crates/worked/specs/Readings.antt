@@ -5,11 +5,12 @@ use mathlib.Core.List.{List, [], _∷_, _++_, map}
 use Prim.Native.Nat.{ℕ, zero, suc, _+_, _*_, _^_, _-_, _<_}
 use native.Mathlib.Omega.{arith}
 use lib.ListN.{set, replicate}
-use Rattle.base.specs.Sizes.{blockBytes, maxBytes}
+use Rattle.base.specs.Sizes.{setBytes, blockBytes, maxBytes}
 use Rattle.base.specs.Lists.{tab, gather}
+use Rattle.base.specs.Bytes.{bytesOf}
 use Rattle.base.specs.Refusals.{Accepted, Refused, No, Done}
 use Rattle.stackless_bytecode.specs.declared.Bytecode.{Bytecode}
-use Rattle.stackless_bytecode.specs.Kinds.{at, Stop, Destroy}
+use Rattle.stackless_bytecode.specs.Kinds.{at, Stop, Destroy, IsParent, WriteBack}
 use Rattle.stackless_bytecode.specs.Successors.{successors}
 use Rattle.dataflow_domains.specs.Mask.{unions}
 use Rattle.sheet.specs.Layout.{countOf, blockOf, sheetOf}
@@ -17,6 +18,7 @@ use Rattle.sheet.specs.Checks.{headingOk, checkSheet}
 use Rattle.stackless_control_flow_graph.specs.Blocks.{flowTable, flowReply}
 use Rattle.livevar_analysis.specs.Live.{execute, Obeys}
 use Rattle.livevar_analysis.specs.Analysis.{analyze, liveReply}
+use Rattle.eliminate_unused_vars.specs.Renumber.{renumberReply}
 use Rattle.livevar_transform.specs.Rewrite.{transformCode, rewriteReply}
 use Rattle.borrow_analysis.specs.Borrows.{inUseReply, conditionalReply, dyingReply}
 use Rattle.worked.specs.Samples.{headingOf, plain, flagged, m1, assign, call, ret, load, branch, jump, label, abort, Not, ReadRef}
@@ -91,6 +93,12 @@ pub record Refusals : Type 0 where
   pub refused-13-order : conditionalReply (record { count = 3; live = 0; numbers = 0 ∷ 2 ∷ 1 ∷ 0 ∷ 2 ∷ 1 ∷ [] }) 0 ≡ No 13 1
   pub refused-13-second : dyingReply (record { count = 3; live = 4; numbers = [] }) (record { count = 3; live = 0; numbers = 0 ∷ 3 ∷ 0 ∷ [] }) 3 ≡ No 13 1000
   pub refused-14 : inUseReply (record { count = 3; live = 0; numbers = [] }) 3 ≡ No 14 0
+  -- at the first of the two, and before 9
+  pub refused-15 : renumberReply (sheetWith 1 (ret 0 [] ∷ call 0 WriteBack [] [] ∷ call 0 IsParent [] [] ∷ ret 0 [] ∷ [])) 0 ≡ No 15 1
+  pub refused-15-first : renumberReply (sheetWith 1 (call 0 IsParent [] [] ∷ call 0 WriteBack [] [] ∷ ret 0 [] ∷ [])) maxBytes ≡ No 15 0
+  pub refused-8-first : renumberReply (sheetWith 1 (call 0 IsParent [] [] ∷ [])) maxBytes ≡ No 8 0
+  pub refused-9-renumber : renumberReply m1 1023 ≡ No 9 0
+  pub enough-9-renumber : renumberReply m1 1024 ≡ Done 1024 m1
 
 pub refusals : Refusals
 unfolding sheetWith losing changed opened
@@ -131,6 +139,11 @@ refusals = record {
   refused-13-order = refl;
   refused-13-second = refl;
   refused-14 = refl;
+  refused-15 = refl;
+  refused-15-first = refl;
+  refused-8-first = refl;
+  refused-9-renumber = refl;
+  enough-9-renumber = refl;
 }
 
 -- n 1,025 breaks the heading, whatever else the sheet has and however many blocks
@@ -247,3 +260,24 @@ rewritings = record {
   both-edges = refl;
   two-branches = refl;
 }
+
+-- ---- renumbering
+
+-- the sheet with so many locals, user locals and references
+unfoldable pub usersSheet : ℕ → ℕ → ℕ → List Bytecode → List ℕ
+usersSheet locals users refs code = sheetOf (bytesOf 2 locals ++ bytesOf 2 users ++ replicate 6 0 ++ bytesOf setBytes refs ++ replicate (blockBytes - 16 - setBytes) 0) code
+
+pub record Renumberings : Type 0 where
+  -- destinations, sources, abort local, record by record; an unmentioned user local stays, another one goes; the mask follows
+  pub in-order : renumberReply (usersSheet 7 1 32 (flagged (call 0 Not (5 ∷ []) (3 ∷ 5 ∷ [])) 1 6 ∷ ret 0 (3 ∷ []) ∷ label 0 1 ∷ ret 0 (2 ∷ []) ∷ [])) maxBytes
+      ≡ Done 1024 (usersSheet 5 1 2 (flagged (call 0 Not (1 ∷ []) (2 ∷ 1 ∷ [])) 1 3 ∷ ret 0 (2 ∷ []) ∷ label 0 1 ∷ ret 0 (4 ∷ []) ∷ []))
+  -- a local that only an abort action mentions stays
+  pub only-abort : renumberReply (usersSheet 3 0 0 (flagged (call 0 Not [] []) 1 2 ∷ label 0 1 ∷ ret 0 [] ∷ [])) maxBytes ≡ Done 1024 (usersSheet 1 0 0 (flagged (call 0 Not [] []) 1 0 ∷ label 0 1 ∷ ret 0 [] ∷ []))
+  -- the 0 in the abort local of an unflagged Call, and those past a list's count, are no mention
+  pub no-mention : renumberReply (usersSheet 2 0 3 (call 0 Not [] (1 ∷ []) ∷ ret 0 [] ∷ [])) maxBytes ≡ Done 1024 (usersSheet 1 0 1 (call 0 Not [] (0 ∷ []) ∷ ret 0 [] ∷ []))
+  -- unreached code mentions too
+  pub unreached : renumberReply (usersSheet 2 0 0 (ret 0 [] ∷ ret 0 (1 ∷ []) ∷ [])) maxBytes ≡ Done 1024 (usersSheet 1 0 0 (ret 0 [] ∷ ret 0 (0 ∷ []) ∷ []))
+
+pub renumberings : Renumberings
+unfolding usersSheet opened
+renumberings = record { in-order = refl; only-abort = refl; no-mention = refl; unreached = refl }

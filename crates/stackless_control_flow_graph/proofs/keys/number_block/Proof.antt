@@ -16,14 +16,14 @@ give-key-requires-2 c κs =
     let p = c .before .before .before .before .before .before .before .before .before .before .before .before .before .before .before .before .pre in
     let g = c .before .before .before .before .before .before .give-key in
     let k = g .kept .1 .1 .0 in
-    (g .ensures .keys, rw (k, c .before .before .before .before .before .before .before .before .before .u16-to-usize2 .ensures .0) (p .2 .second), omega (arith, k, g .kept .1 .1 .1 .0, p .3), omega (arith, k, p .4))
+    (g .ensures .given, rw (k, c .before .before .before .before .before .before .before .before .before .u16-to-usize2 .ensures .0) (p .2 .second), omega (arith, k, g .kept .1 .1 .1 .0, p .3), omega (arith, k, p .4))
 
 give-key-requires-3 : tie.Need-give-key-requires-3
 give-key-requires-3 c κs =
     let p = c .before .before .before .before .before .before .before .before .before .before .before .before .before .before .before .before .before .before .before .before .before .before .before .pre in
     let g = c .before .before .before .before .before .before .give-key2 in
     let k = g .kept .1 .1 .0 ∙ c .before .before .before .before .before .before .before .before .before .before .before .before .before .give-key .kept .1 .1 .0 in
-    (g .ensures .keys, λ some. omega (arith, k, p .1), omega (arith, k, g .kept .1 .1 .1 .0 ∙ c .before .before .before .before .before .before .before .before .before .before .before .before .before .give-key .kept .1 .1 .1 .0, p .3), omega (arith, k, p .4))
+    (g .ensures .given, λ some. omega (arith, k, p .1), omega (arith, k, g .kept .1 .1 .1 .0 ∙ c .before .before .before .before .before .before .before .before .before .before .before .before .before .give-key .kept .1 .1 .1 .0, p .3), omega (arith, k, p .4))
 
 returns : tie.Need-returns
 returns c =

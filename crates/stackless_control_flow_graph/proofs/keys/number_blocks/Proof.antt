@@ -2,16 +2,17 @@
 use mathlib.Core.Path.{_≡_, refl, _∙_}
 use Prim.Native.Nat.{_≤_, _-_}
 use lib.ListN.{length, take}
+use Rattle.base.specs.Numbering.{Gives}
 use Rattle.base.specs.Lists.{gather}
 use Rattle.stackless_control_flow_graph.specs.KeyLaws.{keys-begin, keys-more, block-lower, block-near}
-use Rattle.stackless_control_flow_graph.specs.Arrays.{Gives, takers}
+use Rattle.stackless_control_flow_graph.specs.Arrays.{firstKey, takers}
 use borrow.Author.Needs.{needs}
 use native.Mathlib.Omega.{arith}
 use Rattle.stackless_control_flow_graph.proofs.keys.number_blocks.Statement.{statement}
 use Rattle.stackless_control_flow_graph.proofs.keys.number_blocks.Tie as tie
 
 abbrev Inv-loop : tie.InvT-loop
-Inv-loop goes lowers m uppers keys₀ lowerOfKey₀ c₀ b₀ keys lowerOfKey c b = (b ≤ m) × (length keys ≡ length keys₀) × (length lowerOfKey ≡ length lowerOfKey₀) × Gives (gather (takers goes uppers) (take b lowers)) keys₀ lowerOfKey₀ 0 keys lowerOfKey c
+Inv-loop goes lowers m uppers keys₀ lowerOfKey₀ c₀ b₀ keys lowerOfKey c b = (b ≤ m) × (length keys ≡ length keys₀) × (length lowerOfKey ≡ length lowerOfKey₀) × Gives firstKey (gather (takers goes uppers) (take b lowers)) keys₀ lowerOfKey₀ 0 keys lowerOfKey c
 
 abbrev μ-loop : tie.MeasureT-loop
 μ-loop goes lowers m uppers keys₀ lowerOfKey₀ c₀ b₀ keys lowerOfKey c b = m - b
@@ -29,7 +30,7 @@ number-block-requires c κs =
     let i = c .before .before .before .before .loop .inv in
     let p = c .before .before .before .before .before .before .before .before .before .before .pre in
     let k = c .before .before .block-at .ensures in (
-      i .3 .keys,
+      i .3 .given,
       omega (arith, i .1, block-lower (p .0) (search needs) k),
       rw (i .1) (block-near (p .0) (search needs) k),
       omega (arith, i .1, i .2),
