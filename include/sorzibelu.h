@@ -13,8 +13,8 @@
  * Stack. The calls allocate nothing and keep nothing between calls, so that threads may call them at the same time; their arrays are on the stack.
  * A thread of SORZIBELU_STACK_BYTES is enough for every call but sorzibelu_page, which needs SORZIBELU_PAGE_STACK_BYTES:
  *
- *     check 16.2 KiB   flow 17.3 KiB   live 189.5 KiB   rewrite 205.6 KiB   livelist 205.6 KiB   page 240.6 KiB   dying 9.3 KiB
- *     in_use, conditional below 1 KiB
+ *     check 16.1 KiB   flow 17.3 KiB   live 189.5 KiB   rewrite 205.6 KiB   renumber 45.3 KiB   livelist 205.6 KiB   page 240.6 KiB
+ *     dying 9.3 KiB   in_use, conditional below 1 KiB
  */
 #ifndef SORZIBELU_H
 #define SORZIBELU_H
@@ -44,7 +44,8 @@ enum {
     SORZIBELU_CODE_TOO_LONG = 11,  /* rewritten code above 1,024 instructions */
     SORZIBELU_NODES = 12,          /* a graph has more than 64 nodes or a live bit past them; place: 0, second graph 1 */
     SORZIBELU_TRIPLE = 13,         /* a list of triples; place: 300 for its length, else the triple; 1,000 more for the second graph */
-    SORZIBELU_ASKED_NODE = 14      /* the asked node is not below the count */
+    SORZIBELU_ASKED_NODE = 14,     /* the asked node is not below the count */
+    SORZIBELU_HIDDEN_LOCAL = 15    /* an IsParent or WriteBack hides a local in its payload from renumber; place: its offset */
 };
 
 /* Sizes. */
@@ -80,6 +81,13 @@ uint64_t sorzibelu_live(const uint8_t *sheet, size_t sheet_len, uint8_t *sets, s
  * then 10 and 11.
  */
 uint64_t sorzibelu_rewrite(const uint8_t *sheet, size_t sheet_len, uint8_t *out, size_t out_len);
+
+/*
+ * The sheet with its locals renumbered: user locals keep their numbers, the others are numbered on in the order of their first mention, those that nothing
+ * mentions are gone. Value: its length in bytes, which is sheet_len. The sheet at the front of `out`. Refused 15 at the first IsParent or WriteBack, then 9
+ * where out_len is below sheet_len; SORZIBELU_MAX_SHEET_BYTES are always enough.
+ */
+uint64_t sorzibelu_renumber(const uint8_t *sheet, size_t sheet_len, uint8_t *out, size_t out_len);
 
 /*
  * The page of a sheet, as the program answerbook prints it. Value: its length in bytes. The text at the front of `out`, without a 0 behind it. A refused

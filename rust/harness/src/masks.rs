@@ -3,17 +3,21 @@
 mod checks;
 mod flow;
 mod live;
+mod renumber;
 mod rewrite;
 
 pub use checks::check;
 pub use flow::flow;
 pub use live::{live, live_with_table};
+pub use renumber::renumber;
 pub use rewrite::rewrite;
 use sorzibelu::sheet::{record_start, ABORT, BRANCH, CALL, JUMP, RECORD, RET};
 
 const MOST: usize = 1024;
 const STOP: u8 = 18;
 const DESTROY: u8 = 13;
+const IS_PARENT: u8 = 19;
+const WRITE_BACK: u8 = 20;
 
 /// As many keys as can ever be taken: 1 + (1,024 + 1) * (64 + 1).
 pub const LIST: usize = 66_626;
@@ -60,7 +64,7 @@ fn falls(r: &[u8; RECORD]) -> bool {
 #[cfg(test)]
 mod tests {
     use crate::{random, random::Rng, Bytes};
-    use sorzibelu::{check, flow, live, rewrite};
+    use sorzibelu::{check, flow, live, renumber, rewrite};
 
     #[test]
     fn answers_are_the_proved_ones() {
@@ -86,5 +90,26 @@ mod tests {
             assert_eq!(rewrite(&s, &mut a).map_err(|f| (f.number(), f.place())), super::rewrite(&s, &mut b));
             assert_eq!(a, b);
         }
+    }
+
+    #[test]
+    fn renumbered_as_the_proved_call_does() {
+        let mut rng = Rng::new(12);
+        let mut met = [0; 16];
+        for turn in 0..4000 {
+            let shape = random::shape(&mut rng);
+            let mut s = if turn % 2 == 0 { random::numbered(&mut rng) } else { random::sheet(&mut rng, shape) }.bytes();
+            if turn % 4 == 3 {
+                s = random::damage(&mut rng, &s);
+            }
+            // enough, mostly; else a little less
+            let room = if rng.chance(8) { s.len().saturating_sub(1 + rng.below(600)) } else { s.len() + rng.below(600) };
+            let (mut a, mut b) = (vec![7; room], vec![7; room]);
+            let proved = renumber(&s, &mut a).map_err(|f| (f.number(), f.place()));
+            met[proved.map_or_else(|(number, _)| number as usize, |_| 0)] += 1;
+            assert_eq!(proved, super::renumber(&s, &mut b));
+            assert_eq!(a, b);
+        }
+        assert!(met[0] > 1000 && met[9] > 100 && met[15] > 100, "{met:?}");
     }
 }

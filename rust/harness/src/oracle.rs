@@ -12,6 +12,8 @@ pub const REWRITE: u8 = 3;
 pub const IN_USE: u8 = 4;
 pub const CONDITIONAL: u8 = 5;
 pub const DYING: u8 = 6;
+/// Renumbering, after the name of its function.
+pub const ELIMINATE: u8 = 7;
 
 pub fn start(path: &str) -> Result<Child> {
     Command::new(path).stdin(Stdio::piped()).stdout(Stdio::piped()).spawn()

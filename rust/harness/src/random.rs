@@ -27,6 +27,8 @@ impl Rng {
     }
 }
 
+const TRACE_LOCAL: u8 = 48;
+
 /// What a random sheet is like.
 #[derive(Clone, Copy)]
 pub struct Shape {
@@ -186,6 +188,42 @@ pub fn lossy(rng: &mut Rng) -> Sheet {
     }
     let few = if rng.chance(3) { rng.number() } else { u64::MAX };
     Sheet { locals: locals as u16, references: few >> (64 - locals), code, ..Default::default() }
+}
+
+/// A sheet whose locals are worth renumbering: nothing mentions some of them, an abort action alone may mention one, lists may name one twice. TraceLocal is frequent,
+/// IsParent and WriteBack are rare.
+pub fn numbered(rng: &mut Rng) -> Sheet {
+    let shape = shape(rng);
+    let mut sheet = sheet(rng, shape);
+    let locals = shape.locals;
+    if locals == 0 {
+        return sheet;
+    }
+    // those that are mentioned, in any order; one of the others is for an abort action alone
+    let mut some: Vec<u8> = (0..locals as u8).collect();
+    for i in (1..locals).rev() {
+        some.swap(i, rng.below(i + 1));
+    }
+    let alone = some.split_off(1 + rng.below(locals));
+    let hides = rng.chance(6);
+    for r in &mut sheet.code {
+        for x in r.dsts.iter_mut().chain(&mut r.srcs).chain(&mut r.abort) {
+            *x = some[*x as usize % some.len()];
+        }
+        // the last instruction may be a Stop, and has to stay one
+        if r.kind == CALL && r.sub != 18 && (matches!(r.sub, 19 | 20) && !hides || rng.chance(6)) {
+            r.sub = TRACE_LOCAL;
+            r.payload = rng.below(64) as u32;
+        }
+        if r.kind == CALL && rng.chance(4) && (1..8).contains(&r.dsts.len()) {
+            r.dsts.push(r.dsts[0]);
+        }
+    }
+    let flagged = sheet.code.iter_mut().find_map(|r| r.abort.as_mut());
+    if let (Some(local), Some(x)) = (flagged, alone.first()) {
+        *local = *x;
+    }
+    sheet
 }
 
 /// The sheet moved to an edge of 10 or 11, on either side of it: its highest Label, its highest attribute id, or its length by Nops in front.

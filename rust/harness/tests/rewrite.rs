@@ -181,6 +181,7 @@ fn what_a_refusal_says() {
         (13, 255, "refused 13 255: graph 1, triple 255: "),
         (13, 1_000, "refused 13 1000: graph 2, triple 0: "),
         (14, 0, "refused 14 0: the asked node"),
+        (15, 7, "refused 15 7: offset 7: an IsParent or WriteBack hides a local"),
     ] {
         let said = Refusal::of(number, place).to_string();
         assert!(said.starts_with(says), "{said}");

@@ -2,7 +2,7 @@
 use sorzibelu::{
     check, graph,
     mark::{Kind, Question},
-    text,
+    renumbered, text,
 };
 
 const DOC: &str = include_str!("../../../docs/TEXT.md");
@@ -80,9 +80,13 @@ fn refusals() {
         let lines = quoted(row[1]);
         let (tail, code) = if lines[0].starts_with(' ') { (lines[0], &lines[1..]) } else { ("", &lines[..]) };
         let text = format!("locals 1 user 1 parameters 0 references{tail}\n{}\n", code.join("\n"));
-        assert_eq!(check(&text::read(&text).unwrap().bytes).unwrap_err().number().to_string(), row[0], "{text}");
+        let bytes = text::read(&text).unwrap().bytes;
+        // 15 is renumber's alone
+        let refused = check(&bytes).and_then(|()| renumbered(&bytes).map(drop)).unwrap_err();
+        assert_eq!(check(&bytes).is_ok(), row[0].ends_with(", of renumber alone"));
+        assert_eq!(Some(&refused.number().to_string()[..]), row[0].split(',').next(), "{text}");
     }
-    assert_eq!(rows.len(), 8);
+    assert_eq!(rows.len(), 9);
 }
 
 #[test]

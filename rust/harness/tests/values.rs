@@ -27,6 +27,7 @@ fn values_are_what_was_lent() {
         }
         let mut out = vec![0; MAX_SHEET_BYTES];
         assert_eq!(rewritten(&s), rewrite(&s, &mut out).map(|n| out[..n as usize].to_vec()));
+        assert_eq!(renumbered(&s), renumber(&s, &mut out).map(|n| out[..n as usize].to_vec()));
         assert_eq!(Sheet::try_from(&s[..]).map(|sheet| sheet.bytes()), check(&s).map(|()| s.clone()));
         let (a, b) = graphs::pair(&mut rng, i % 2 == 0);
         let mut out = [0; MAX_NODES];
@@ -79,6 +80,12 @@ fn every_refused_sheet_has_its_own_words() {
         }
     }
     assert!(met[1..].iter().all(|n| *n > 5), "{met:?}");
+    for (name, sub) in [("IsParent", 19), ("WriteBack", 20)] {
+        let hides = Instruction { sub, payload: 7, ..Instruction::new(CALL) };
+        let s = Sheet { code: vec![Instruction::new(NOP), hides, Instruction::new(RET)], ..Default::default() }.bytes();
+        let said = why(&s, renumbered(&s).unwrap_err());
+        assert_eq!(said, format!("offset 1: the {name} hides a local in its payload, 7, where renumbering does not reach it"));
+    }
 }
 
 #[test]

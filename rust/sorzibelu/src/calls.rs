@@ -73,6 +73,23 @@ pub fn rewrite(sheet: &[u8], out: &mut [u8]) -> Result<u32, Refusal> {
     lent(sheet, out, ffi::sorzibelu_rewrite)
 }
 
+/// The sheet with its locals renumbered: how many bytes it has, as many as before, and they at the front of `out`, which is lent as many or more. User locals
+/// keep their numbers, the others are numbered on in the order of their first mention, and those that nothing mentions are gone.
+///
+/// ```
+/// use sorzibelu::{renumber, sheet::Sheet, text, Refusal};
+/// let spare = text::assemble("locals 4 user 1 parameters 0 references t3\nt3 <- call BorrowLoc t0\nret t3\n")?;
+/// let spare = Vec::try_from(&spare)?;
+/// let mut out = [0; 1_024];
+/// assert_eq!(renumber(&spare, &mut out), Ok(1_024));
+/// assert_eq!(text::list(&Sheet::try_from(&out[..])?), "locals 2 user 1 parameters 0 references t1\nt1 <- call BorrowLoc t0\nret t1\n");
+/// assert_eq!(renumber(&spare, &mut out[1..]), Err(Refusal::ShortOutput));
+/// # Ok::<(), Box<dyn std::error::Error>>(())
+/// ```
+pub fn renumber(sheet: &[u8], out: &mut [u8]) -> Result<u32, Refusal> {
+    lent(sheet, out, ffi::sorzibelu_renumber)
+}
+
 /// The page of any bytes: how long it is, and it at the front of `out`, which is lent [`PAGE_BYTES`](crate::PAGE_BYTES) or more. A refused
 /// sheet's page is the line `refused NUMBER PLACE`; only [`ShortOutput`](Refusal::ShortOutput) is an error. The call needs
 /// [`PAGE_STACK_BYTES`](crate::PAGE_STACK_BYTES) of stack.

@@ -1,7 +1,7 @@
 //! Sheets, live sets and dying nodes: safe calls over the proved archive (crates/c_api).
 //!
-//! A sheet is a slice of bytes, a graph three values; every call takes any slices at all, and answers as document 01 has it. There are two forms of
-//! each call:
+//! A sheet is a slice of bytes, a graph three values; every call takes any slices at all, and answers as documents 01 and 02 have it. There are two
+//! forms of each call:
 //!
 //! | asks | lent output, no allocation | as a value |
 //! |---|---|---|
@@ -9,6 +9,7 @@
 //! | its flow table | [`flow`] | [`blocks`] |
 //! | its live sets, and blocks taken | [`live`] | [`live_sets`] |
 //! | its rewriting | [`rewrite`] | [`rewritten`] |
+//! | it with its locals renumbered | [`renumber`] | [`renumbered`] |
 //! | its page, as text | [`page`] | [`page_text`] |
 //! | its live sets, as text | [`livelist`] | [`livelist_text`] |
 //! | is a node in use, is it conditional? | | [`in_use`], [`conditional`] |
@@ -22,9 +23,9 @@
 //! The calls allocate nothing: their arrays are on the stack. A thread of [`STACK_BYTES`] is enough for every call but [`page`], and one of
 //! [`PAGE_STACK_BYTES`] for that; the main thread and the threads of `std` have more.
 //!
-//! | check | flow | live | rewrite | livelist | page | dying | in use, conditional |
-//! |---|---|---|---|---|---|---|---|
-//! | 16.2 KiB | 17.3 KiB | 189.5 KiB | 205.6 KiB | 205.6 KiB | 240.6 KiB | 9.3 KiB | below 1 KiB |
+//! | check | flow | live | rewrite | renumber | livelist | page | dying | in use, conditional |
+//! |---|---|---|---|---|---|---|---|---|
+//! | 16.1 KiB | 17.3 KiB | 189.5 KiB | 205.6 KiB | 45.3 KiB | 205.6 KiB | 240.6 KiB | 9.3 KiB | below 1 KiB |
 #![warn(missing_docs)]
 mod calls;
 mod ffi;

@@ -90,6 +90,22 @@ pub fn rewritten(sheet: &[u8]) -> Result<Vec<u8>, Refusal> {
     Ok(out)
 }
 
+/// The bytes of the sheet with its locals renumbered.
+///
+/// ```
+/// use sorzibelu::{renumbered, text, Refusal};
+/// let hides = text::assemble("locals 1 user 0 parameters 0 references t0\nt0 <- call IsParent #7\nret\n")?;
+/// assert_eq!(renumbered(&Vec::try_from(&hides)?), Err(Refusal::HiddenLocal(0)));
+/// # Ok::<(), Box<dyn std::error::Error>>(())
+/// ```
+pub fn renumbered(sheet: &[u8]) -> Result<Vec<u8>, Refusal> {
+    // what is longer than any sheet is refused whatever is lent
+    let mut out = vec![0; sheet.len().min(MAX_SHEET_BYTES)];
+    let length = calls::renumber(sheet, &mut out)?;
+    out.truncate(length as usize);
+    Ok(out)
+}
+
 /// A text that a call writes at the front of so many bytes, which are enough for every one.
 fn text(sheet: &[u8], room: usize, call: fn(&[u8], &mut [u8]) -> Result<u32, Refusal>) -> Result<String, Refusal> {
     let mut out = vec![0; room];

@@ -1,4 +1,4 @@
-//! Why a call was turned away: the rows of document 01's tables, each with its number and place.
+//! Why a call was turned away: the rows of document 01's tables and what document 02 adds to them, each with its number and place.
 use std::fmt;
 
 /// A row of the tables of refusals. What a variant holds is its place: a block, an offset, or a place in a graph.
@@ -33,6 +33,8 @@ pub enum Refusal {
     Triple(u16),
     /// 14: the asked node is not below the node count.
     AskedNode,
+    /// 15: the IsParent or WriteBack hides a local in its payload, where renumbering does not reach it.
+    HiddenLocal(u16),
     /// A number that this version does not know, and its place: the archive is newer than the crate.
     Other(u16, u16),
 }
@@ -57,6 +59,7 @@ impl Refusal {
             12 => Nodes(place),
             13 => Triple(place),
             14 => AskedNode,
+            15 => HiddenLocal(place),
             _ => Other(number, place),
         }
     }
@@ -78,6 +81,7 @@ impl Refusal {
             Nodes(_) => 12,
             Triple(_) => 13,
             AskedNode => 14,
+            HiddenLocal(_) => 15,
             Other(number, _) => number,
         }
     }
@@ -86,7 +90,7 @@ impl Refusal {
     pub fn place(self) -> u16 {
         match self {
             Length | Heading | ShortOutput | NumbersRunOut | CodeTooLong | AskedNode => 0,
-            Block(p) | Record(p) | Local(p) | RepeatedLabel(p) | MissingLabel(p) | FallsPastEnd(p) | Nodes(p) | Triple(p) => p,
+            Block(p) | Record(p) | Local(p) | RepeatedLabel(p) | MissingLabel(p) | FallsPastEnd(p) | Nodes(p) | Triple(p) | HiddenLocal(p) => p,
             Other(_, place) => place,
         }
     }
@@ -112,6 +116,7 @@ impl fmt::Display for Refusal {
             Triple(p) if p % 1000 == 300 => write!(f, "graph {}: the list's length is no multiple of three or above 256 triples", p / 1000 + 1),
             Triple(p) => write!(f, "graph {}, triple {}: a node is not below the count, or the triple is not above the one before it", p / 1000 + 1, p % 1000),
             AskedNode => write!(f, "the asked node is not below the node count"),
+            HiddenLocal(p) => write!(f, "offset {p}: an IsParent or WriteBack hides a local in its payload, where renumbering does not reach it"),
             Other(..) => write!(f, "a number that this version does not know"),
         }
     }

@@ -8,7 +8,7 @@ pub const MAX_LOCALS: usize = 64;
 pub const MAX_LIST: usize = 8;
 /// The shortest sheet.
 pub const MIN_SHEET_BYTES: usize = 1_024;
-/// The longest sheet; a [`rewrite`](crate::rewrite) is lent so many bytes.
+/// The longest sheet; a [`rewrite`](crate::rewrite) is lent so many bytes, and for a [`renumber`](crate::renumber) they are always enough.
 pub const MAX_SHEET_BYTES: usize = 35_840;
 /// What [`flow`](crate::flow) writes for one block.
 pub const NUMBERS_PER_BLOCK: usize = 6;

@@ -22,6 +22,7 @@ pub fn sheet(bytes: &[u8], refusal: Refusal) -> String {
         Refusal::MissingLabel(k) => record_at(bytes, k).and_then(|r| missing(bytes, r)).map(|w| format!("offset {k}: {w}")),
         Refusal::FallsPastEnd(k) => record_at(bytes, k).map(|r| format!("offset {k}: {} is the last instruction and can fall past the end", named(r))),
         Refusal::NumbersRunOut => Some(numbers(bytes)),
+        Refusal::HiddenLocal(k) => record_at(bytes, k).and_then(hidden).map(|w| format!("offset {k}: {w}")),
         _ => None,
     };
     said.unwrap_or_else(|| general(refusal))
@@ -247,6 +248,16 @@ fn numbers(bytes: &[u8]) -> String {
         u32::from(label) + 1,
         u32::from(attr) + 1
     )
+}
+
+fn hidden(r: &[u8; RECORD]) -> Option<String> {
+    let name = match (r[0], r[1]) {
+        (CALL, 19) => "IsParent",
+        (CALL, 20) => "WriteBack",
+        _ => return None,
+    };
+    let payload = u32::from_le_bytes([r[28], r[29], r[30], r[31]]);
+    Some(format!("the {name} hides a local in its payload, {payload}, where renumbering does not reach it"))
 }
 
 // ---- graphs

@@ -3,7 +3,7 @@ mod common;
 use common::*;
 use std::fs;
 
-const COMMANDS: [&str; 11] = ["page", "live", "flow", "rewrite", "check", "assemble", "list", "mark", "in-use", "conditional", "dying"];
+const COMMANDS: [&str; 12] = ["page", "live", "flow", "rewrite", "renumber", "check", "assemble", "list", "mark", "in-use", "conditional", "dying"];
 
 #[test]
 fn text_or_bytes_whatever_the_name() {
@@ -11,7 +11,7 @@ fn text_or_bytes_whatever_the_name() {
     let (text, bytes) = (fs::read(stored("m6.txt")).unwrap(), fs::read(stored("m6.sheet")).unwrap());
     let swapped = [file(&dir, "m6.sheet", &text), file(&dir, "m6.txt", &bytes)];
     let with_mark = file(&dir, "mark", [&[0xef, 0xbb, 0xbf], &text[..]].concat());
-    for command in ["page", "live", "flow", "rewrite", "check", "list"] {
+    for command in ["page", "live", "flow", "rewrite", "renumber", "check", "list"] {
         let wanted = run(&[command, &stored("m6.txt")]);
         assert_eq!(wanted.0, 0);
         for other in [&stored("m6.sheet"), &swapped[0], &swapped[1], &with_mark] {
@@ -84,6 +84,64 @@ fn rewritten_bytes() {
     answered(&["list", &to], "locals 3 user 3 parameters 0 references\nt0 <- load Bool\nt2 <- call Not t0\nret t2\n");
     let out = command(&["rewrite", "-o", "-", &stored("m5.txt")]).output().unwrap();
     assert_eq!(out.stdout, fs::read(&to).unwrap());
+}
+
+/// Which local is now which: every sort of line, and the code below.
+#[test]
+fn renumbered_in_words() {
+    let dir = folder("renumbered");
+    let text = fs::read_to_string(stored("spare.txt")).unwrap();
+    let readme = fs::read_to_string(root().join("README.md")).unwrap();
+    let (status, out, _) = run(&["renumber", &stored("spare.txt")]);
+    assert_eq!(status, 0);
+    // README shows the sheet, without its comment, and what is printed
+    for part in [text.split_once('\n').unwrap().1, &out] {
+        assert!(readme.contains(&format!("```text\n{part}```\n")), "{part}");
+    }
+    for (given, says) in [
+        (
+            "locals 3 user 0 parameters 0 references t2\nret t2\n",
+            "there are no user locals\nt0 is gone\nt1 is gone\nt2 is now t0\n\nlocals 1 user 0 parameters 0 references t0\n0: ret t0\n",
+        ),
+        ("locals 2 user 1 parameters 0 references\nret\n", "t0 is a user local and keeps its number\nt1 is gone\n\nlocals 1 user 1 parameters 0 references\n0: ret\n"),
+        (
+            "locals 6 user 4 parameters 1 references\nret t5 t4\n",
+            "t0 to t3 are user locals and keep their numbers\nt4 is now t5\nt5 is now t4\n\nlocals 6 user 4 parameters 1 references\n0: ret t4 t5\n",
+        ),
+        ("locals 2 user 1 parameters 0 references\nret t1\n", "nothing changes: every local keeps its number\n\nlocals 2 user 1 parameters 0 references\n0: ret t1\n"),
+        ("locals 0 user 0 parameters 0 references\nret\n", "nothing changes: there are no locals\n\nlocals 0 user 0 parameters 0 references\n0: ret\n"),
+        // gone, and nothing moves
+        ("locals 2 user 0 parameters 0 references\nret t0\n", "there are no user locals\nt0 is still t0\nt1 is gone\n\nlocals 1 user 0 parameters 0 references\n0: ret t0\n"),
+    ] {
+        answered(&["renumber", &file(&dir, "sheet", given)], says);
+    }
+    // a rewriting leaves t1 behind
+    let new = dir.join("new").display().to_string();
+    let merged = file(&dir, "merged", "locals 3 user 0 parameters 0 references\nt0 <- load Bool\nt1 <- call Not t0\nt2 <- copy t1\nret t2\n");
+    answered(&["rewrite", "-o", &new, &merged], "");
+    let code = "locals 2 user 0 parameters 0 references\n0: t0 <- load Bool\n1: t1 <- call Not t0\n2: ret t1\n";
+    answered(&["renumber", &new], &format!("there are no user locals\nt0 is still t0\nt1 is gone\nt2 is now t1\n\n{code}"));
+}
+
+#[test]
+fn renumbered_bytes() {
+    let dir = folder("renumbered_bytes");
+    let to = dir.join("new").display().to_string();
+    answered(&["renumber", "-o", &to, &stored("spare.txt")], "");
+    let code = "t2 <- call BorrowLoc t0\nt3 <- call ReadRef t2 abort L1 into t4\nret t3\nlabel L1\nabort t4\n";
+    answered(&["list", &to], &format!("locals 5 user 2 parameters 1 references t2\n{code}"));
+    let out = command(&["renumber", "-o", "-", &stored("spare.txt")]).output().unwrap();
+    assert_eq!(out.stdout, fs::read(&to).unwrap());
+    // a local that is hidden: nothing is written, and the line is told
+    let hides = file(&dir, "hides", "locals 2 user 1 parameters 0 references t1\n// the parent of t1\nt0 <- call IsParent t1 #5\nnop\ncall WriteBack t1\nret\n");
+    let says = "refused 15 0\nline 3, offset 0: the IsParent hides a local in its payload, 5, where renumbering does not reach it\n";
+    refused(&["renumber", &hides], says);
+    let old = fs::read(&to).unwrap();
+    refused(&["renumber", "-o", &to, &hides], says);
+    assert_eq!(fs::read(&to).unwrap(), old);
+    let bytes = dir.join("hides.sheet").display().to_string();
+    answered(&["assemble", "-o", &bytes, &hides], "");
+    refused(&["renumber", &bytes], &says.replace("line 3, ", ""));
 }
 
 #[test]
@@ -163,7 +221,7 @@ fn refusals_in_words() {
         (&format!("{head}label L1\ncall Stop abort L1 into t0\n"), "8 1\nline 3, offset 1: a Stop with an abort action is the last instruction and can fall past the end\n"),
     ] {
         let sheet = file(&dir, "sheet", text);
-        for command in ["check", "flow", "rewrite", "list"] {
+        for command in ["check", "flow", "rewrite", "renumber", "list"] {
             refused(&[command, &sheet], &format!("refused {says}"));
         }
     }

@@ -43,6 +43,8 @@ int main(void) {
     same("live", sets, before, 16);
     is("rewrite", sorzibelu_rewrite(m1, 1024, out, sizeof out), 0, 1024);
     same("rewrite", out, m1, 1024);
+    is("renumber", sorzibelu_renumber(m1, 1024, out, sizeof out), 0, 1024);
+    same("renumber", out, m1, 1024);
     is("in use", sorzibelu_in_use(3, 4, chain, 6, 0), 0, 1);
     is("conditional", sorzibelu_conditional(3, 4, chain, 6, 0), 0, 0);
     is("dying", sorzibelu_dying(3, 4, chain, 6, 3, 0, chain, 6, nodes, sizeof nodes), 0, 3);
@@ -54,6 +56,8 @@ int main(void) {
     is("no table", sorzibelu_flow(m1, 1024, NULL, 0), SORZIBELU_SHORT_OUTPUT, 0);
     is("no sets", sorzibelu_live(m1, 1024, NULL, 0), SORZIBELU_SHORT_OUTPUT, 0);
     is("no output", sorzibelu_rewrite(m1, 1024, NULL, 0), SORZIBELU_SHORT_OUTPUT, 0);
+    is("no output", sorzibelu_renumber(m1, 1024, NULL, 0), SORZIBELU_SHORT_OUTPUT, 0);
+    is("no sheet, no output", sorzibelu_renumber(NULL, 0, NULL, 0), SORZIBELU_LENGTH, 0);
     is("no triples", sorzibelu_in_use(1, 1, NULL, 0, 0), 0, 1);
     is("no triples, no node", sorzibelu_conditional(0, 0, NULL, 0, 0), SORZIBELU_ASKED_NODE, 0);
     is("nothing at all", sorzibelu_dying(0, 0, NULL, 0, 0, 0, NULL, 0, NULL, 0), 0, 0);
@@ -70,6 +74,14 @@ int main(void) {
     same("livelist", text, "0 0000000000000001 0000000000000000\ntaken 3\n", 44);
     is("a short page", sorzibelu_page(m1, 1024, text, SORZIBELU_PAGE_BYTES - 1), SORZIBELU_SHORT_OUTPUT, 0);
     is("no livelist", sorzibelu_livelist(m1, 1024, NULL, 0), SORZIBELU_SHORT_OUTPUT, 0);
+    /* the Ret made an IsParent, and a Ret behind it */
+    m1[4] = 2;
+    m1[2] = 5;
+    m1[544] = 1;
+    m1[544 + 1] = 19;
+    m1[576] = 2;
+    m1[514] = 24;
+    is("a hidden local", sorzibelu_renumber(m1, 1024, out, sizeof out), SORZIBELU_HIDDEN_LOCAL, 0);
     puts(failed ? "failed" : "all right");
     return failed;
 }

@@ -2,7 +2,7 @@
 //! Rust as well, over a pipe whose own cost is measured in the same rounds and taken off. `bench families` only says how many blocks each looped sheet takes; `bench repeat SHEET` only runs
 //! live on a sheet of the table 20,000 times, for a profiler.
 use harness::{masks, oracle::*, random, random::Rng, Bytes};
-use sorzibelu::{check, conditional, dying, flow, in_use, live, rewrite, sheet::*, Graph};
+use sorzibelu::{check, conditional, dying, flow, in_use, live, renumber, rewrite, sheet::*, Graph};
 use std::{hint::black_box, process::Child, time::Instant};
 
 const ROUNDS: usize = 200;
@@ -111,6 +111,32 @@ fn losing() -> Sheet {
         code.extend([branch(2 * i, 2 * i + 1, 63), label(2 * i), eight, label(2 * i + 1), ret()]);
     }
     Sheet { references: 255, ..of(code) }
+}
+
+/// The sheet without user locals, and with a Not for each IsParent and WriteBack, so that renumbering accepts it and has work to do.
+fn numbered(sheet: &Sheet) -> Sheet {
+    let mut sheet = Sheet { user_locals: 0, parameters: 0, references: u64::MAX, ..sheet.clone() };
+    sheet.code.iter_mut().filter(|r| r.kind == CALL && matches!(r.sub, 19 | 20)).for_each(|r| r.sub = 28);
+    sheet
+}
+
+/// 1,023 Assigns over the last eight of 64 locals: 56 vanish.
+fn unmentioned() -> Sheet {
+    let local = |k: usize| vec![(63 - k % 8) as u8];
+    let mut code: Vec<Instruction> = (0..1023).map(|k| Instruction { dsts: local(k), srcs: local(k / 8), ..Instruction::new(ASSIGN) }).collect();
+    code.push(ret());
+    Sheet { user_locals: 0, references: u64::MAX, ..of(code) }
+}
+
+/// 1,022 flagged Calls with both lists full, from the last local to the first and round again.
+fn full() -> Sheet {
+    let local = |k: usize| (63 - k % 64) as u8;
+    let eight = |from: usize| (from..from + 8).map(local).collect();
+    let not = |k: usize| Instruction { sub: 28, one: 1, dsts: eight(k), srcs: eight(k + 8), abort: Some(local(k + 16)), ..Instruction::new(CALL) };
+    let mut code = vec![label(1)];
+    code.extend((0..1022).map(|k| not(17 * k)));
+    code.push(Instruction { srcs: eight(0), ..ret() });
+    Sheet { user_locals: 0, references: u64::MAX, ..of(code) }
 }
 
 /// Looped sheets of 1,024 instructions and 64 locals.
@@ -249,6 +275,18 @@ fn main() {
             oracle.as_mut().map(|o| (o, REWRITE, s)),
         );
         assert!(d[..length as usize] == e[..length as usize]);
+    }
+    for (name, sheet) in [("straight", &numbered(&sheets[0].1)), ("few locals mentioned", &unmentioned()), ("all lists full", &full())] {
+        let s = &sheet.bytes()[..];
+        let length = renumber(s, &mut d).unwrap() as usize;
+        row(
+            &format!("renumber, {name}, {} of 64 locals left", Sheet::of_bytes(&d[..length]).locals),
+            call(|| renumber(black_box(s), &mut d)),
+            Some(call(|| masks::renumber(black_box(s), &mut e))),
+            None,
+            oracle.as_mut().map(|o| (o, ELIMINATE, s)),
+        );
+        assert!(d[..length] == e[..length]);
     }
     // graphs: 64 nodes, 246 triples, four from each node to the next ones
     let triples: Vec<u32> = (0..64u32).flat_map(|p| (1..5).filter(move |d| p + d < 64).flat_map(move |d| [p, p + d, 0])).collect();

@@ -1,4 +1,4 @@
-//! Every edge of document 01 that a sheet can show.
+//! Every edge of document 01 that a sheet can show, and every rule of renumbering.
 use harness::{Bytes, random};
 use sorzibelu::{sheet::*, text};
 use std::fs;
@@ -9,6 +9,27 @@ pub fn assembled(t: &str) -> Sheet {
 
 pub fn nops(n: usize, last: &str) -> Sheet {
     assembled(&format!("locals 2 user 0 parameters 0 references t1\n{}{last}\n", "nop\n".repeat(n - 1)))
+}
+
+/// Every rule of renumbering, and its refusal at early and late places.
+pub fn numberings() -> Vec<Sheet> {
+    let head = |users: u16, references: &str| format!("locals 6 user {users} parameters 0 references{references}\n");
+    let mut all = vec![assembled(&fs::read_to_string(format!("{}/../../sheets/spare.txt", env!("CARGO_MANIFEST_DIR"))).expect("sheets/"))];
+    for code in [
+        "ret", "ret t5", "ret t5 t4 t3 t2 t1 t0", "t5 t4 <- call Not t3 t0 abort L1 into t2\nlabel L1\nret t1", "call Function abort L1 into t4\nlabel L1\nret",
+        "t3 t3 t5 <- call Not t5 t3 t3\nret", "t4 <- copy t4\nret t4", "ret t3\nt0 <- load U64 #7\nabort t2", "t4 <- call ReadRef t5\nret t4", "call TraceLocal t5 #5\nret",
+        "t5 <- call Not t4\ncall Stop", "t5 <- move t4 @9\nbranch L7 L8 on t3 @7\nlabel L7\njump L8\nlabel L8\nnop\nsavemem #1\nsavespecvar #2\nprop Modifies t2 t1 #65535\nabort t0",
+        "call IsParent\nret", "ret t4\ncall WriteBack t5 #4294967295\nret", "nop\nt5 <- call WriteBack t4 abort L1 into t3\ncall IsParent\nlabel L1\nret", "call IsParent t5\nret",
+    ] {
+        all.extend([(0, " t5"), (1, " t0 t2 t4"), (4, " t1 t3 t5"), (6, "")].map(|(users, references)| assembled(&(head(users, references) + code + "\n"))));
+    }
+    let last = Instruction { srcs: vec![63, 0], ..Instruction::new(RET) };
+    let nops = vec![Instruction::new(NOP); 1_022];
+    for sub in [20, 28] {
+        let call = Instruction { sub, dsts: (56..64).rev().collect(), srcs: (0..8).collect(), ..Instruction::new(CALL) };
+        all.push(Sheet { locals: 64, references: 1 << 63 | 1, code: [&nops[..], &[call, last.clone()]].concat(), ..Default::default() });
+    }
+    all
 }
 
 /// Every edge of document 01 that a sheet can show.

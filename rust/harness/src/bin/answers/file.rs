@@ -1,9 +1,11 @@
 //! The file of stored answers: a case, how it is packed and unpacked, and its replay with the proved calls.
 use harness::oracle::*;
-use sorzibelu::{Graph, Refusal, check, conditional, dying, flow, graph::Owned, in_use, live, rewrite};
+use sorzibelu::{Graph, Refusal, check, conditional, dying, flow, graph::Owned, in_use, live, renumber, rewrite};
 use std::collections::HashMap;
 
+// behind the first six, which have the original's numbers
 pub const CHECK: u8 = 7;
+pub const RENUMBER: u8 = 8;
 pub const WRONG: u8 = 128;
 pub const FILLING: u8 = 0xA5;
 pub const HEAD: usize = 16;
@@ -110,6 +112,7 @@ pub fn agrees(op: u8, lent: usize, result: u64, input: &[u8], second: &[u8], wri
         FLOW => packed(flow(input, &mut numbers[..lent])),
         LIVE => packed(live(input, &mut bytes[..lent])),
         REWRITE => packed(rewrite(input, &mut bytes[..lent])),
+        RENUMBER => packed(renumber(input, &mut bytes[..lent])),
         IN_USE | CONDITIONAL => {
             let node = u32::from_le_bytes(second.try_into().unwrap());
             let g = of_given(input);
@@ -126,7 +129,7 @@ pub fn agrees(op: u8, lent: usize, result: u64, input: &[u8], second: &[u8], wri
 pub fn replay(file: &[u8]) -> usize {
     let u32_at = |at: usize| u32::from_le_bytes(file[at..at + 4].try_into().unwrap()) as usize;
     assert!(&file[..8] == b"replay 1" && u32_at(12) == file.len());
-    let (mut counts, mut bad, mut wrong, mut found) = ([0; 8], 0, 0, 0);
+    let (mut counts, mut bad, mut wrong, mut found) = ([0; 9], 0, 0, 0);
     for k in 0..u32_at(8) {
         let row = HEAD + ROW * k;
         let string = |at: usize| unpack(&file[u32_at(row + at)..u32_at(row + at) + u32_at(row + at + 4)]);
@@ -147,7 +150,7 @@ pub fn replay(file: &[u8]) -> usize {
             }
         }
     }
-    for (op, name) in [(1, "flow"), (2, "live"), (3, "rewrite"), (4, "in use"), (5, "conditional"), (6, "dying"), (7, "check")] {
+    for (op, name) in (1..).zip(["flow", "live", "rewrite", "in use", "conditional", "dying", "check", "renumber"]) {
         println!("{name} {} {}", counts[op], if (4..7).contains(&op) { "graphs" } else { "sheets" });
     }
     println!("{} cases, {bad} differences\n{wrong} made wrong, {found} found", counts.iter().sum::<usize>());

@@ -1,12 +1,12 @@
 //! `answers ORACLE FILE`: writes the stored answers that crates/replay replays, in the format of crates/replay/FORMAT.txt.
 //!
-//! Answers of accepted sheets, 10 and 11 among them, and of graphs are the original's, behind oracle/. Refusals, short output and the
+//! Answers of accepted sheets, 10, 11 and 15 among them, and of graphs are the original's, behind oracle/. Refusals, short output and the
 //! questions that the original does not finish are answered by the plain reading (rust/harness/src/plain.rs); no answer comes from the proved calls.
 //! Then the file is read back and replayed with the proved calls, and what crates/replay must print is printed.
 mod edges;
 mod file;
 
-use edges::edges;
+use edges::{edges, numberings};
 use file::*;
 use harness::{Bytes, graphs, oracle::*, plain, random, random::Rng};
 use sorzibelu::{
@@ -22,11 +22,13 @@ use std::{
 struct Maker {
     oracle: Child,
     rng: Rng,
+    /// Of its own, so that the other calls' cases stay as they were.
+    numbering: Rng,
     cases: Vec<Case>,
 }
 
 impl Maker {
-    /// All four calls on a sheet: output exact, and one of short, empty and long for each.
+    /// All calls on a sheet: output exact, and one of short, empty and long for each.
     fn sheet(&mut self, s: &[u8]) {
         let case = |op, lent, result, written: &[u8]| Case { op, lent, result, input: s.to_vec(), second: vec![], written: written.to_vec() };
         let checked = plain::check(s);
@@ -37,6 +39,8 @@ impl Maker {
                 let lent = if self.rng.chance(3) { enough } else { few };
                 self.cases.push(case(op, lent, Err(r), &[]));
             }
+            let lent = if self.numbering.chance(3) { s.len().min(MOST) } else { few };
+            self.cases.push(case(RENUMBER, lent, Err(r), &[]));
             return;
         }
         let n = Sheet::of_bytes(s).code.len();
@@ -57,6 +61,34 @@ impl Maker {
                 _ => (more, result, written),
             };
             self.cases.push(case(op, lent, result, written));
+        }
+        self.renumbering(s);
+    }
+
+    /// Renumber on an accepted sheet: output exact, and one of short, empty and long; 15 comes before 9.
+    fn renumbering(&mut self, s: &[u8]) {
+        let (status, data) = ask(&mut self.oracle, ELIMINATE, s);
+        let (result, written) = match status {
+            0 => (Ok(data.len() as u32), &data[..]),
+            15 => (Err((15, u16::from_le_bytes([data[0], data[1]]))), &[][..]),
+            _ => panic!("the original answers {status} to question {ELIMINATE}"),
+        };
+        let exact = s.len();
+        let other = [exact - 1, 0, exact + 1 + self.numbering.below(60)][self.numbering.below(3)];
+        for lent in [exact, other] {
+            let short = status == 0 && lent < exact;
+            let (result, written) = if short { (Err((9, 0)), &[][..]) } else { (result, written) };
+            self.cases.push(Case { op: RENUMBER, lent, result, input: s.to_vec(), second: vec![], written: written.to_vec() });
+        }
+    }
+
+    /// Renumber on a sheet and on what rewriting leaves of it.
+    fn renumberings(&mut self, s: &[u8]) {
+        self.renumbering(s);
+        if let (0, new) = ask(&mut self.oracle, REWRITE, s)
+            && new != s
+        {
+            self.renumbering(&new);
         }
     }
 
@@ -98,8 +130,9 @@ impl Maker {
     fn made_wrong(&mut self) {
         let ends = |c: &Case| c.written.len() > 1 && c.written.last() != Some(&FILLING);
         let mut wrong = vec![];
-        for op in 1..=CHECK {
-            let of = |accepted: bool| self.cases.iter().filter(move |c| c.op == op && c.result.is_ok() == accepted && (!accepted || !(1..4).contains(&op) && op != DYING || ends(c)));
+        for op in 1..=RENUMBER {
+            let writes = matches!(op, FLOW | LIVE | REWRITE | DYING | RENUMBER);
+            let of = |accepted: bool| self.cases.iter().filter(move |c| c.op == op && c.result.is_ok() == accepted && (!accepted || !writes || ends(c)));
             for (i, c) in of(true).step_by(1 + of(true).count() / 3).enumerate() {
                 let Ok(value) = c.result else { continue };
                 wrong.push(Case { result: Ok(value + 1), ..c.clone() });
@@ -130,12 +163,17 @@ impl Maker {
                 }
             }
         }
+        // 9 for 15, and 15 at another place
+        for c in self.cases.iter().filter(|c| matches!(c.result, Err((15, _)))).step_by(12) {
+            let place = c.result.map_or_else(|(_, place)| place, |_| 0);
+            wrong.extend([(9, 0), (15, place + 1)].map(|r| Case { result: Err(r), ..c.clone() }));
+        }
         self.cases.extend(wrong.into_iter().map(|c| Case { op: c.op + WRONG, ..c }));
     }
 }
 
 fn make(oracle: Child) -> Vec<Case> {
-    let mut m = Maker { oracle, rng: Rng::new(11), cases: vec![] };
+    let mut m = Maker { oracle, rng: Rng::new(11), numbering: Rng::new(13), cases: vec![] };
     for s in edges() {
         m.sheet(&s);
     }
@@ -161,6 +199,15 @@ fn make(oracle: Child) -> Vec<Case> {
                 m.sheet(&t.bytes());
                 edges += 1;
             }
+        }
+    }
+    for s in numberings() {
+        m.renumberings(&s.bytes());
+    }
+    for _ in 0..90 {
+        let s = random::numbered(&mut m.numbering);
+        if s.code.len() < 60 {
+            m.renumberings(&s.bytes());
         }
     }
     // M7, M8, cycles and chains; then random graphs, fine, cyclic and broken

@@ -53,9 +53,9 @@ pub fn show_sets(a: &Answered<Vec<u8>>) -> String {
     shown(a, |b| b.chunks(16).enumerate().map(|(k, s)| if s.len() == 16 { format!("{k} {} {}\n", hex(&s[..8]), hex(&s[8..])) } else { format!("taken {}\n", hex(s)) }).collect())
 }
 
-/// A rewritten sheet as a listing.
+/// A new sheet as a listing.
 pub fn show_sheet(a: &Answered<Vec<u8>>) -> String {
-    shown(a, |b| if readable(b) { text::list(&Sheet::of_bytes(b)) } else { format!("{b:?}\n") })
+    shown(a, |b| if readable(b) { text::list(&Sheet::of_bytes(b)) } else { text::list_raw(b) })
 }
 
 pub fn shown(a: &Answered<Vec<u8>>, show: impl Fn(&[u8]) -> String) -> String {
@@ -65,11 +65,11 @@ pub fn shown(a: &Answered<Vec<u8>>, show: impl Fn(&[u8]) -> String) -> String {
     }
 }
 
-/// The original's answer: data, or a refusal that its driver works out (10, 11).
+/// The original's answer: data, or a refusal that its driver works out (10, 11, 15) with its place.
 pub fn theirs(a: &Answer) -> Answered<Vec<u8>> {
     match a.0 {
         0 => Ok(a.1.clone()),
-        status => Err((status as u16, 0)),
+        status => Err((status as u16, u16::from_le_bytes([a.1[0], a.1[1]]))),
     }
 }
 

@@ -3,7 +3,7 @@
 //! for one from the clock; without any they are 1 and fresh.
 //!
 //! a: every sheet of up to five instructions over small alphabets, up to six where COUNT is 20,000 or more. b: random sheets, sheets moved
-//! to the edges of 10 and 11, one that keeps the work list full. c: damaged copies. d: graphs without and with cycles, broken ones.
+//! to the edges of 10 and 11, sheets with locals that nothing mentions, one that keeps the work list full. c: damaged copies. d: graphs without and with cycles, broken ones.
 //! e: every call with lent output exact, short, empty and long, between guards. The smallest sheet or graph with a difference is made
 //! smaller and printed with both answers; the status is then 1.
 mod graphs;
@@ -13,7 +13,7 @@ mod small;
 
 use harness::{Bytes, graphs as random_graphs, oracle::*, plain, random, random::Rng};
 use judge::{Part, Run};
-use small::{MIDDLE, NARROW, WIDE, every};
+use small::{MIDDLE, NARROW, NUMBERED, WIDE, every, every_numbering};
 use sorzibelu::graph::Owned;
 use std::{
     env,
@@ -29,6 +29,9 @@ fn met(part: &Part) -> String {
 fn small_sheets(run: &mut Run, more: usize) {
     let mut a = Part::default();
     let start = Instant::now();
+    for n in 1..=3 + more {
+        every_numbering(NUMBERED, n, |sheets| run.sheets(&mut a, sheets));
+    }
     for (alphabet, lengths) in [(WIDE, 1..=3 + more), (MIDDLE, 4..=4 + more), (NARROW, 5..=5 + more)] {
         for n in lengths {
             every(alphabet, n, |sheets| run.sheets(&mut a, sheets));
@@ -60,7 +63,11 @@ fn random_ones(run: &mut Run, count: usize, seed: u64) -> bool {
         let (mut sheets, mut damaged) = (vec![], vec![]);
         for _ in 0..batch {
             let shape = random::shape(&mut rng);
-            let s = if rng.chance(3) { random::lossy(&mut rng) } else { random::sheet(&mut rng, shape) };
+            let s = match rng.below(3) {
+                0 => random::lossy(&mut rng),
+                1 => random::numbered(&mut rng),
+                _ => random::sheet(&mut rng, shape),
+            };
             damaged.extend((0..10).map(|_| random::damage(&mut rng, &s.bytes())).filter(|t| plain::check(t).is_err()));
             sheets.extend(random::edge(&mut rng, &s).map(|t| t.bytes()));
             sheets.push(s.bytes());
@@ -68,7 +75,7 @@ fn random_ones(run: &mut Run, count: usize, seed: u64) -> bool {
         run.sheets(&mut b, &sheets);
         run.sheets(&mut c, &damaged);
     }
-    println!("b  random sheets: {} sheets, {} questions to the original; rewriting refused{}; {} differences", b.sheets, b.questions, met(&b), b.differences);
+    println!("b  random sheets: {} sheets, {} questions to the original; rewriting or renumbering refused{}; {} differences", b.sheets, b.questions, met(&b), b.differences);
     println!("c  damaged sheets: {} sheets, refused{}; {} differences ({} s)", c.sheets, met(&c), c.differences, start.elapsed().as_secs());
 
     // all graphs of three nodes and single edges, cycles and self-loops among them, each with one next
@@ -108,7 +115,7 @@ fn random_ones(run: &mut Run, count: usize, seed: u64) -> bool {
         start.elapsed().as_secs()
     );
     let mut fine = true;
-    for (part, name, numbers) in [(&b, "b", 10..12), (&c, "c", 1..9), (&d, "d", 12..15), (&d, "d", 9..10)] {
+    for (part, name, numbers) in [(&b, "b", 10..12), (&b, "b", 15..16), (&c, "c", 1..9), (&d, "d", 12..15), (&d, "d", 9..10)] {
         for number in numbers.filter(|number| !part.met.contains_key(number)) {
             println!("refusal {number} was not met in {name}: a larger COUNT is needed");
             fine = false;

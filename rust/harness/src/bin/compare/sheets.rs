@@ -1,7 +1,7 @@
 //! Sheets: every call beside the original and the plain reading.
 use crate::judge::*;
 use harness::{Bytes, lent::lend, oracle::*, plain};
-use sorzibelu::{check, flow, live, rewrite, sheet::*, text};
+use sorzibelu::{check, flow, live, renumber, rewrite, sheet::*, text};
 
 impl Run {
     /// All calls on one sheet, beside the plain reading's checks and, where these accept it, the answers of the original.
@@ -15,6 +15,7 @@ impl Run {
             same("flow", lend(room(6_144), turn, |b| 6 * b as usize, |t| flow(s, t))?.0, Err(r))?;
             same("live", lend(room(16_384), turn, |_| 0, |t| live(s, t))?.0, Err(r))?;
             same("rewrite", lend(room(MAX_BYTES), turn, |b| b as usize, |t| rewrite(s, t))?.0, Err(r))?;
+            same("renumber", lend(room(s.len()), turn, |b| b as usize, |t| renumber(s, t))?.0, Err(r))?;
             return Ok(());
         }
         let sheet = Sheet::of_bytes(s);
@@ -43,33 +44,64 @@ impl Run {
             let (answer, wrote) = lend(room, turn, |b| b as usize, |t| rewrite(s, t))?;
             same_as(&format!("rewrite, {room} bytes lent"), answer.map(|_| wrote), wanted, show_sheet)?;
         }
+        self.judge_renumbering("renumber", s, &answers[3])?;
         if let Ok(new) = new {
             same("check of the rewritten sheet", check(&new).map_err(pair), Ok(()))?;
+            if let Some(answer) = answers.get(4) {
+                self.judge_renumbering("renumber of the rewritten sheet", &new, answer)?;
+            }
         }
         Ok(())
+    }
+
+    /// Renumber on an accepted sheet, beside the plain reading and the original; what comes out is accepted, and stays as it is when it is renumbered again.
+    fn judge_renumbering(&mut self, what: &str, s: &[u8], answer: &Answer) -> Result<(), String> {
+        let there = theirs(answer);
+        same_as(&format!("{what}; here the plain reading, there the original"), plain::renumber(s), there.clone(), show_sheet)?;
+        for (room, wanted) in self.rooms(s.len(), &there) {
+            // 15 comes before 9
+            let wanted = if there.is_err() { there.clone() } else { wanted };
+            let (answer, wrote) = lend(room, self.turn, |b| b as usize, |t| renumber(s, t))?;
+            same_as(&format!("{what}, {room} bytes lent"), answer.map(|_| wrote), wanted, show_sheet)?;
+        }
+        if let Ok(new) = there {
+            same(&format!("{what}: its check"), check(&new).map_err(pair), Ok(()))?;
+            let (answer, wrote) = lend(new.len(), self.turn, |b| b as usize, |t| renumber(&new, t))?;
+            same_as(&format!("{what}, and again"), answer.map(|_| wrote), Ok(new), show_sheet)?;
+        }
+        Ok(())
+    }
+
+    /// What the original says of accepted sheets: flow, live, rewriting, renumbering, and where the rewritten sheet is another one, its renumbering.
+    fn ask(&mut self, sheets: &[&[u8]]) -> Vec<Vec<Answer>> {
+        let requests: Vec<(u8, &[u8])> = sheets.iter().flat_map(|s| [FLOW, LIVE, REWRITE, ELIMINATE].map(|op| (op, *s))).collect();
+        let mut all: Vec<Vec<Answer>> = pump(&mut self.oracle, &requests).chunks(4).map(<[_]>::to_vec).collect();
+        let other = |s: &[u8], a: &[Answer]| a[2].0 == 0 && a[2].1 != s;
+        let again: Vec<(u8, &[u8])> = sheets.iter().zip(&all).filter(|(s, a)| other(s, a)).map(|(_, a)| (ELIMINATE, &a[2].1[..])).collect();
+        let mut again = pump(&mut self.oracle, &again).into_iter();
+        for (_, a) in sheets.iter().zip(&mut all).filter(|(s, a)| other(s, a)) {
+            a.extend(again.next());
+        }
+        all
     }
 
     /// Asks the original about those of the sheets that are accepted, all at once, and judges each.
     pub fn sheets(&mut self, part: &mut Part, sheets: &[Vec<u8>]) {
         let checks: Vec<Answered<()>> = sheets.iter().map(|s| plain::check(s)).collect();
-        let mut requests: Vec<(u8, &[u8])> = vec![];
-        for (s, _) in sheets.iter().zip(&checks).filter(|(_, c)| c.is_ok()) {
-            requests.extend([FLOW, LIVE, REWRITE].map(|op| (op, &s[..])));
-        }
-        let answers = pump(&mut self.oracle, &requests);
-        part.questions += requests.len();
-        let mut at = 0;
+        let accepted: Vec<&[u8]> = sheets.iter().zip(&checks).filter(|(_, c)| c.is_ok()).map(|(s, _)| &s[..]).collect();
+        let answers = self.ask(&accepted);
+        part.questions += answers.iter().map(Vec::len).sum::<usize>();
+        let mut answers = answers.iter();
         for (s, checked) in sheets.iter().zip(checks) {
             part.sheets += 1;
             let mine = match checked {
                 Ok(()) => {
                     part.accepted += 1;
-                    at += 3;
-                    let mine = &answers[at - 3..at];
-                    if mine[2].0 != 0 {
-                        *part.met.entry(mine[2].0 as u16).or_default() += 1;
+                    let mine = answers.next().unwrap();
+                    for refused in mine[2..4].iter().map(|a| a.0 as u16).filter(|status| *status != 0) {
+                        *part.met.entry(refused).or_default() += 1;
                     }
-                    mine
+                    &mine[..]
                 }
                 Err((number, _)) => {
                     *part.met.entry(number).or_default() += 1;
@@ -88,7 +120,7 @@ impl Run {
     pub fn differs(&mut self, s: &[u8]) -> Option<String> {
         let checked = plain::check(s);
         let answers = match checked {
-            Ok(()) => pump(&mut self.oracle, &[(FLOW, s), (LIVE, s), (REWRITE, s)]),
+            Ok(()) => self.ask(&[s]).remove(0),
             Err(_) => vec![],
         };
         self.judge(s, checked, &answers).err()
@@ -132,6 +164,12 @@ impl Run {
             }
             for i in (0..64).filter(|i| sheet.references >> i & 1 == 1) {
                 smaller.push(Sheet { references: sheet.references & !(1 << i), ..sheet.clone() });
+            }
+            if let Some(user_locals) = sheet.user_locals.checked_sub(1) {
+                smaller.push(Sheet { user_locals, parameters: sheet.parameters.min(user_locals), ..sheet.clone() });
+            }
+            if sheet.user_locals < sheet.locals && sheet.references >> (sheet.locals - 1) & 1 == 0 {
+                smaller.push(Sheet { locals: sheet.locals - 1, ..sheet.clone() });
             }
             match smaller.into_iter().find(|t| readable(&t.bytes()) && self.differs(&t.bytes()).is_some()) {
                 Some(t) => sheet = t,

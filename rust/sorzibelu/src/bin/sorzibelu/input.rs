@@ -109,7 +109,7 @@ impl Given {
     /// What is printed for a refusal: the paper's line, and what it means, with the line of the text where there is one.
     pub fn refused(&self, refusal: Refusal) -> String {
         let line = match (&self.text, refusal.number()) {
-            (Some(written), 2..=8) => format!("line {}, ", written.fault(refusal).line),
+            (Some(written), 2..=8 | 15) => format!("line {}, ", written.fault(refusal).line),
             _ => String::new(),
         };
         format!("refused {} {}\n{line}{}\n", refusal.number(), refusal.place(), sheet::why(&self.bytes, refusal))

@@ -9,6 +9,7 @@ mod input;
 mod list;
 mod mark;
 mod output;
+mod renumber;
 mod rewrite;
 mod texts;
 mod words;
@@ -34,6 +35,7 @@ const COMMANDS: &[&Command] = &[
     &texts::LIVE,
     &flow::COMMAND,
     &rewrite::COMMAND,
+    &renumber::COMMAND,
     &check::COMMAND,
     &assemble::COMMAND,
     &list::COMMAND,

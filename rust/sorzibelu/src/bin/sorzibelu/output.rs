@@ -1,5 +1,6 @@
 //! What is written, and how the command ends.
 use std::{
+    ffi::OsStr,
     fs,
     io::{self, ErrorKind, Write},
     path::{Path, PathBuf},
@@ -49,6 +50,12 @@ pub fn put(bytes: &[u8]) -> Result<(), End> {
 /// A text on standard output: answered.
 pub fn print(text: &str) -> Result<Status, End> {
     put(text.as_bytes()).map(|()| Status::Answered)
+}
+
+/// A sheet's bytes to where `-o` says: a file, or standard output for `-`.
+pub fn put_sheet(to: &OsStr, bytes: &[u8]) -> Result<Status, End> {
+    if to == "-" { put(bytes)? } else { write_file(Path::new(to), bytes)? }
+    Ok(Status::Answered)
 }
 
 /// Takes a file away again unless it was kept.

@@ -1,12 +1,11 @@
 //! `rewrite [-o SHEET] FILE`.
 use crate::{
     input,
-    output::{print, put, write_file, End, Status},
+    output::{print, put_sheet, End, Status},
     words::Words,
     Command,
 };
 use sorzibelu::{rewritten, sheet::Sheet, text, Refusal};
-use std::path::Path;
 
 pub const COMMAND: Command = Command {
     name: "rewrite",
@@ -19,7 +18,7 @@ pub const COMMAND: Command = Command {
 };
 
 /// The text of a sheet, with the offset before each instruction, as on a page.
-fn listing(bytes: &[u8]) -> Result<String, Refusal> {
+pub fn listing(bytes: &[u8]) -> Result<String, Refusal> {
     let all = text::list(&Sheet::try_from(bytes)?);
     let (head, code) = all.split_once('\n').unwrap_or((&all, ""));
     Ok(code.lines().enumerate().fold(format!("{head}\n"), |s, (k, line)| s + &format!("{k}: {line}\n")))
@@ -32,13 +31,9 @@ fn run(mut words: Words) -> Result<Status, End> {
         Ok(new) => new,
         Err(r) => return given.refuse(r),
     };
-    match to {
-        Some(to) if to == "-" => put(&new)?,
-        Some(to) => write_file(Path::new(&to), &new)?,
-        None => match listing(&new) {
-            Ok(text) => return print(&text),
-            Err(r) => return given.refuse(r),
-        },
+    match (to, listing(&new)) {
+        (Some(to), _) => put_sheet(&to, &new),
+        (None, Ok(text)) => print(&text),
+        (None, Err(r)) => given.refuse(r),
     }
-    Ok(Status::Answered)
 }
