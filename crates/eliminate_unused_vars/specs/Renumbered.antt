@@ -1,4 +1,4 @@
--- What a renumbered sheet is: accepted, no longer than it must be, the same when renumbered again, and with the old live sets under the new numbers. Assumes nothing.
+-- What a renumbered sheet is: accepted, with no local that nothing needs, the same when renumbered again, and with the old live sets under the new numbers. Assumes nothing.
 use mathlib.Core.Path.{_≡_}
 use mathlib.Core.Bool.{true}
 use mathlib.Core.Logic.{_⊎_}
