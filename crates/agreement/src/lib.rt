@@ -6,6 +6,7 @@ ghost use Rattle.c_api.specs.Packed.{checkReply};
 ghost use Rattle.borrow_analysis.specs.Graph.{graphInput};
 ghost use Rattle.borrow_analysis.specs.Borrows.{inUseReply, conditionalReply, dyingReply};
 ghost use Rattle.stackless_control_flow_graph.specs.Blocks.{flowReply};
+ghost use Rattle.label.specs.LabelCall.{labelReply};
 ghost use Rattle.livevar_analysis.specs.Analysis.{liveReply};
 ghost use Rattle.livevar_transform.specs.Rewrite.{rewriteReply};
 ghost use Rattle.eliminate_unused_vars.specs.Renumber.{renumberReply};
@@ -15,6 +16,7 @@ use c_api::sorzibelu_conditional;
 use c_api::sorzibelu_dying;
 use c_api::sorzibelu_flow;
 use c_api::sorzibelu_in_use;
+use c_api::sorzibelu_label;
 use c_api::sorzibelu_live;
 use c_api::sorzibelu_renumber;
 use c_api::sorzibelu_rewrite;
@@ -105,6 +107,12 @@ pub fn check_agrees(sheet: &[u8], result: u64) -> bool
     ensures { λ r. ⌜ Says r (SameResult (checkReply (now (sheet .entry))) result) ⌝ }
 {
     sorzibelu_check(sheet) == result
+}
+
+pub fn label_agrees(sheet: &[u8], label: u32, result: u64) -> bool
+    ensures { λ r. ⌜ Says r (SameResult (labelReply (now (sheet .entry)) label) result) ⌝ }
+{
+    sorzibelu_label(sheet, label) == result
 }
 
 pub fn in_use_agrees(nodes: u32, live: u64, triples: &[u32], node: u32, result: u64) -> bool

@@ -9,6 +9,7 @@ use Rattle.base.specs.ReplyLaws.{reply-refused, reply-done}
 use Rattle.stackless_bytecode.specs.declared.Bytecode.{Bytecode}
 use Rattle.sheet.specs.Checks.{checkSheet}
 use Rattle.stackless_control_flow_graph.specs.FlowMeaning.{FlowMeaning}
+use Rattle.label.specs.LabelCall.{LabelMeaning}
 use Rattle.livevar_analysis.specs.LiveCall.{LeastLive, TakenUntilEmpty}
 use Rattle.borrow_analysis.specs.Meaning.{Decides}
 use Rattle.c_api.specs.Packed.{checkReply}
@@ -26,6 +27,9 @@ module _ {x y : Result} (e : x ≡ y) where
 
   pub flow-of : {code : List Bytecode} {table : List ℕ} → (x .number ≡ 0 → FlowMeaning code (x .value) table) → y .number ≡ 0 → FlowMeaning code (y .value) table
   flow-of {code} {table} = of-result (λ r. FlowMeaning code (r .value) table) e
+
+  pub label-of : {code : List Bytecode} {l : ℕ} → (x .number ≡ 0 → LabelMeaning code l (x .value)) → y .number ≡ 0 → LabelMeaning code l (y .value)
+  label-of {code} {l} = of-result (λ r. LabelMeaning code l (r .value)) e
 
   -- of what is written
   pub front-of : (P : List ℕ → Type 0) (out : List ℕ) → (x .number ≡ 0 → P (take (x .value) out)) → y .number ≡ 0 → P (take (y .value) out)

@@ -6,6 +6,7 @@ ghost use Rattle.base.specs.Refusals.{resultOf, answerOf, outputAfter};
 ghost use Rattle.sheet.specs.Layout.{codeOf};
 ghost use Rattle.stackless_control_flow_graph.specs.Blocks.{flowReply};
 ghost use Rattle.stackless_control_flow_graph.specs.FlowMeaning.{FlowMeaning};
+ghost use Rattle.label.specs.LabelCall.{labelReply, LabelMeaning};
 ghost use Rattle.livevar_analysis.specs.Analysis.{liveReply};
 ghost use Rattle.livevar_analysis.specs.LiveCall.{LeastLive, TakenUntilEmpty};
 ghost use Rattle.livevar_transform.specs.Rewrite.{rewriteReply};
@@ -51,6 +52,15 @@ pub extern "C" fn sorzibelu_flow(sheet: &[u8], table: &mut [u16]) -> u64
     ensures means { λ _. ⌜ (resultOf (flowReply (now (sheet .entry)) (length (now (table .entry)))) .number ≡ 0 → FlowMeaning (codeOf (now (sheet .entry))) (resultOf (flowReply (now (sheet .entry)) (length (now (table .entry)))) .value) (now (table .exit))) ⌝ }
 {
     pack(flow_table::forward::flow(sheet, table))
+}
+
+// What a label is in the code: 65,536 times the way, and the offset.
+#[no_mangle]
+pub extern "C" fn sorzibelu_label(sheet: &[u8], label: u32) -> u64
+    ensures result { λ r. ⌜ r ≡ packed (resultOf (labelReply (now (sheet .entry)) label)) ⌝ }
+    ensures means { λ _. ⌜ (resultOf (labelReply (now (sheet .entry)) label) .number ≡ 0 → LabelMeaning (codeOf (now (sheet .entry))) label (resultOf (labelReply (now (sheet .entry)) label) .value)) ⌝ }
+{
+    pack(label::label::label(sheet, label))
 }
 
 // How many blocks were taken, and the sets before and after each instruction at the front of `sets`.

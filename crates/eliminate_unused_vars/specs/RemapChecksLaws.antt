@@ -13,6 +13,8 @@ use Rattle.base.specs.Lists.{all}
 use Rattle.base.specs.ListLaws.{by-test, and-true, or-not, in-map, getD-in}
 use Rattle.stackless_bytecode.specs.declared.Bytecode.{Bytecode}
 use Rattle.stackless_bytecode.specs.Kinds.{Call, nop, at, dstsOf, srcsOf, isFlagged, fallsThrough, branchDests, labelOf}
+use Rattle.stackless_bytecode.specs.Labels.{labelOffset}
+use Rattle.stackless_bytecode.specs.LookupLaws.{label-defined}
 use Rattle.sheet.specs.declared.Shape.{Shape}
 use Rattle.sheet.specs.Layout.{padded}
 use Rattle.sheet.specs.Checks.{shapeOf, recordOk, localsOk}
@@ -20,7 +22,7 @@ use Rattle.sheet.specs.AcceptLaws.{and-both, all-by}
 use Rattle.sheet.specs.AcceptedLaws.{Fits, is-fits, fits-is, local-lt}
 use Rattle.sheet_writer.specs.EncodeLaws.{Small, Encodes, padded-size, small-padded}
 use Rattle.sheet_writer.specs.BodyLaws.{Body}
-use Rattle.stackless_control_flow_graph.specs.AlikeLaws.{KeepsFlow, at-alike, labels-alike}
+use Rattle.stackless_control_flow_graph.specs.AlikeLaws.{KeepsFlow, at-alike}
 use Rattle.eliminate_unused_vars.specs.Remap.{mentions, newNumber, remap}
 use Rattle.eliminate_unused_vars.specs.StayingLaws.{number-lt}
 use Rattle.eliminate_unused_vars.specs.RemapLaws.{keeps-flow, padded-past, Remaps, dst-stays, src-stays, abort-stays, dsts-size, srcs-size, new-mentions}
@@ -127,7 +129,8 @@ new-body l stay code ok few body = record {
   unique = record { one = λ o o′ l h h′ i i′. body .unique .one o o′ l (old o h) (old o′ h′) (label o l i) (label o′ l i′) };
   sound = record {
     some = omega (arith, size, body .sound .some);
-    named = λ k l h i. omega (arith, size, ap (λ (f : ℕ → ℕ). f l) (labels-alike flow code), body .sound .named k l (old k h) (subst (λ (xs : List ℕ). List·Memᴰ l xs) (ap branchDests (is k) ∙ flow .dests (at code k)) i));
+    named = λ k l h i. let d = body .sound .named k l (old k h) (subst (λ (xs : List ℕ). List·Memᴰ l xs) (ap branchDests (is k) ∙ flow .dests (at code k)) i) in
+        label-defined (map (remap stay) code) (labelOffset code l) l (omega (arith, size, d .inside)) (subst (λ (xs : List ℕ). List·Memᴰ l xs) (sym (ap labelOf (is (labelOffset code l)) ∙ flow .label (at code (labelOffset code l)))) (d .label));
     closed = ap (λ (n : ℕ). fallsThrough (at (map (remap stay) code) (n - 1))) size ∙ ap fallsThrough (is (length code - 1)) ∙ flow .falls (at code (length code - 1)) ∙ body .sound .closed;
   };
 }

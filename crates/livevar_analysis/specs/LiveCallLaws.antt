@@ -37,7 +37,7 @@ succ-inside : (code : List Bytecode) → Sound code → (k o : ℕ) → k < leng
 succ-inside code sound k o h i = go (in-succs code k o i)
   where
     go : NextOffset code k o → o < length code
-    go (named l j e) = subst (λ (x : ℕ). x < length code) (sym e) (sound .named k l h j)
+    go (named l j e) = subst (λ (x : ℕ). x < length code) (sym e) (sound .named k l h j .inside)
     go (on f e) =
         by-eq (suc k) (length code)
         (λ q. let last : k ≡ length code - 1 = omega arith in absurd (true≢false (sym f ∙ ap (λ (x : ℕ). fallsThrough (at code x)) last ∙ sound .closed)))

@@ -20,7 +20,7 @@ use Rattle.stackless_bytecode.specs.declared.Bytecode.{Bytecode}
 use Rattle.stackless_bytecode.specs.Kinds.{Branch, at, branchDests}
 use Rattle.stackless_bytecode.specs.KindLaws.{branch-names}
 use Rattle.stackless_bytecode.specs.Slots.{slotAt, noLabel}
-use Rattle.stackless_bytecode.specs.Successors.{labelOffset}
+use Rattle.stackless_bytecode.specs.Labels.{offsetOf, labelOffset}
 use Rattle.sheet.specs.Layout.{codeOf, instructionAt}
 use Rattle.sheet.specs.CheckLaws.{code-sound}
 use Rattle.livevar_analysis.specs.Analysis.{LiveVarInfo, infosOf}
@@ -77,12 +77,12 @@ module _ {s targets info : List ℕ} {n : ℕ} (h : Ready s targets info n) wher
 
     pub target-is : r .one < noLabel → r .two < noLabel → getD targets e 0 ≡ labelOffset (codeOf s) (targetOf (codeOf s) e)
     target-is x y =
-        h .resolved .each e (omega (arith, size (h .known))) (subst (λ (z : ℕ). z < noLabel) (sym (target-slot (codeOf s) e is-branch)) (target-low (codeOf s) e (omega (arith, ap (λ (z : Bytecode). z .one) code-is)) (omega (arith, ap (λ (z : Bytecode). z .two) code-is))))
+        sym (ap offsetOf (h .resolved .each e (omega (arith, size (h .known))) (subst (λ (z : ℕ). z < noLabel) (sym (target-slot (codeOf s) e is-branch)) (target-low (codeOf s) e (omega (arith, ap (λ (z : Bytecode). z .one) code-is)) (omega (arith, ap (λ (z : Bytecode). z .two) code-is))))))
         ∙ ap (labelOffset (codeOf s)) (target-slot (codeOf s) e is-branch)
 
     pub target-inside : r .one < noLabel → r .two < noLabel → getD targets e 0 < n
     target-inside x y =
-        omega (arith, target-is x y, size (h .known), code-sound s (h .known .accepted) .named (e / 2) (targetOf (codeOf s) e) (omega (arith, size (h .known))) (target-named (codeOf s) e is-branch))
+        omega (arith, target-is x y, size (h .known), code-sound s (h .known .accepted) .named (e / 2) (targetOf (codeOf s) e) (omega (arith, size (h .known))) (target-named (codeOf s) e is-branch) .inside)
 
     -- the references that it loses
     lost-branch : (refs : ℕ) → r .one < noLabel → r .two < noLabel → lostRefs (codeOf s) (infosOf n info) refs e ≡ members maxLocals (lostBy targets info refs e r)

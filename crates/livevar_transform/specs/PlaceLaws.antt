@@ -18,7 +18,7 @@ use Rattle.stackless_bytecode.specs.declared.Bytecode.{Bytecode}
 use Rattle.base.specs.Sizes.{maxLocals}
 use Rattle.base.specs.Lists.{keep, count, total, joins}
 use Rattle.stackless_bytecode.specs.Kinds.{Branch, Label, nop, at, isExit, isFlagged, isJump, fallsThrough, branchDests, labelOf}
-use Rattle.stackless_bytecode.specs.Successors.{labelOffset}
+use Rattle.stackless_bytecode.specs.Labels.{labelOffset}
 use Rattle.livevar_analysis.specs.Analysis.{LiveVarInfo}
 use Rattle.livevar_transform.specs.Rewrite.{aimed, into, destroyBlock, blockSize, infoAt, isMerged, isDropped, targetOf, lostRefs, isLosing, labelFor, attrFor, goesTo, standsFor, keptCode, blockOn, addedCode, transformCode}
 use Rattle.base.specs.ListLaws.{by-test, in-keep}

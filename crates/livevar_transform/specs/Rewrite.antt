@@ -12,7 +12,7 @@ use Rattle.base.specs.Refusals.{check, whole, _then_, lends, Reply, Done, reply
 use Rattle.dataflow_domains.specs.Mask.{holds, minus}
 use Rattle.stackless_bytecode.specs.declared.Bytecode.{Bytecode}
 use Rattle.stackless_bytecode.specs.Kinds.{Assign, Call, Load, Branch, Jump, Label, Destroy, at, labelOf}
-use Rattle.stackless_bytecode.specs.Successors.{labelOffset}
+use Rattle.stackless_bytecode.specs.Labels.{labelOffset}
 use Rattle.sheet.specs.Layout.{headingRest, padded, localsOf, refsOf, codeOf, sheetOf}
 use Rattle.sheet.specs.Checks.{checkSheet}
 use Rattle.livevar_analysis.specs.Analysis.{LiveVarInfo, noInfo, analyze}

@@ -11,14 +11,15 @@ use lib.ListN.{getD, length}
 use Rattle.stackless_bytecode.specs.declared.Bytecode.{Bytecode}
 use Rattle.base.specs.Lists.{has}
 use Rattle.stackless_bytecode.specs.Kinds.{Branch, Jump, Label, nop, at, isFlagged, fallsThrough, branchDests, labelOf}
-use Rattle.stackless_bytecode.specs.Successors.{labelOffset, Unique}
+use Rattle.stackless_bytecode.specs.Successors.{Unique}
+use Rattle.stackless_bytecode.specs.Labels.{labelOffset}
 use Rattle.livevar_analysis.specs.Analysis.{LiveVarInfo}
 use Rattle.livevar_transform.specs.Rewrite.{made, aimed, blockSize, isDropped, targetOf, nextFreeLabel, lostRefs, isLosing, labelFor, attrFor, goesTo, standsFor, blockOn, transformCode}
 use Rattle.base.specs.ListLaws.{by-test, by-eq}
 use Rattle.base.specs.JoinLaws.{count-one}
 use Rattle.stackless_bytecode.specs.KindLaws.{branch-names, jump-falls, label-kind}
-use Rattle.stackless_bytecode.specs.SuccessorLaws.{offset-label, offset-is}
-use Rattle.stackless_bytecode.specs.Sound.{Sound}
+use Rattle.stackless_bytecode.specs.LookupLaws.{label-defined, offset-is}
+use Rattle.stackless_bytecode.specs.Sound.{Defined, Sound}
 use Rattle.livevar_transform.specs.PieceLaws.{label-below, Part, head-names, destroy-names, last-names, block-head, size-is, size-some, pos, is-merged, is-gone, kept-by, gone-falls, pos-lt, head-marks, destroy-marks, last-marks}
 use Rattle.livevar_transform.specs.PlaceLaws.{startOf, Where, where-is, new-length, new-kept, new-added, added-part, pos-inside, added-inside, by-stands, stands-label, stands-falls, losing-some, some-losing, losing-branch, target-named}
 
@@ -37,9 +38,7 @@ module _ (code : List Bytecode) (info : List LiveVarInfo) (refs : ℕ) where
 
     pub target : (k l : ℕ) → k < length code → List·Memᴰ l (branchDests (at code k)) → Target l
     target k l h i =
-        let inside = sound .named k l h i in
-        let label = offset-label code l inside in
-        record { inside = inside; label = label; kept = label-kept (labelOffset code l) l label }
+        let d = sound .named k l h i in record { inside = d .inside; label = d .label; kept = label-kept (labelOffset code l) l (d .label) }
 
     edge-inside : (e : ℕ) → e < 2 * length code → e / 2 < length code
     edge-inside e h = omega arith
@@ -83,23 +82,40 @@ module _ (code : List Bytecode) (info : List LiveVarInfo) (refs : ℕ) where
         go p p′ l (new e b f q s) (old i b′ m s′) = absurd (omega (arith, label-below code i l b′ m, label-new e))
         go p p′ l (new e b f q s) (new e′ b′ f′ q′ s′) = s ∙ ap (startOf code info refs) (label-one e e′ f f′ (sym q ∙ q′)) ∙ sym s′
 
+    -- label l stands at offset o of the new code
+    record NewLabel (l o : ℕ) : Type 0 where
+      inside : o < length (transformCode code info refs)
+      label : List·Memᴰ l (labelOf (at (transformCode code info refs) o))
+
+    new-defined : (l o : ℕ) → NewLabel l o → Defined (transformCode code info refs) l
+    new-defined l o n = label-defined (transformCode code info refs) o l (n .inside) (n .label)
+
+    new-offset : (l o : ℕ) → NewLabel l o → labelOffset (transformCode code info refs) l ≡ o
+    new-offset l o n = offset-is (transformCode code info refs) new-unique o l (n .inside) (n .label)
+
     -- an old label's new offset
+    old-stands : (l : ℕ) → Target l → NewLabel l (pos code info (labelOffset code l))
+    old-stands l t = record {
+      inside = pos-inside code info refs (labelOffset code l) (t .inside) (t .kept);
+      label = subst (λ (x : List ℕ). List·Memᴰ l x) (sym (ap labelOf (new-kept code info refs (labelOffset code l) (t .inside) (t .kept)) ∙ stands-label code info refs (labelOffset code l))) (t .label);
+    }
+
     pub offset-old : (l : ℕ) → Target l → labelOffset (transformCode code info refs) l ≡ pos code info (labelOffset code l)
-    offset-old l t =
-        offset-is (transformCode code info refs) new-unique (pos code info (labelOffset code l)) l (pos-inside code info refs (labelOffset code l) (t .inside) (t .kept))
-        (subst (λ (x : List ℕ). List·Memᴰ l x) (sym (ap labelOf (new-kept code info refs (labelOffset code l) (t .inside) (t .kept)) ∙ stands-label code info refs (labelOffset code l))) (t .label))
+    offset-old l t = new-offset l (pos code info (labelOffset code l)) (old-stands l t)
 
     -- a new label's offset
-    pub offset-new : (e : ℕ) → e < 2 * length code → 0 < length (lostRefs code info refs e) → labelOffset (transformCode code info refs) (labelFor code info refs e) ≡ startOf code info refs e
-    offset-new e h s =
+    new-stands : (e : ℕ) → e < 2 * length code → 0 < length (lostRefs code info refs e) → NewLabel (labelFor code info refs e) (startOf code info refs e)
+    new-stands e h s =
         let w : 0 < blockSize (lostRefs code info refs e) = omega (arith, size-is (lostRefs code info refs e) s) in
         let z : startOf code info refs e + 0 ≡ startOf code info refs e = omega arith in
         let is : at (transformCode code info refs) (startOf code info refs e) ≡ made Label 0 (attrFor code info refs e) (labelFor code info refs e) [] = ap (at (transformCode code info refs)) (sym z) ∙ new-added code info refs e 0 h w ∙ first e s in
-        offset-is (transformCode code info refs) new-unique (startOf code info refs e) (labelFor code info refs e) (omega (arith, added-inside code info refs e 0 h w))
-        (subst (λ (x : List ℕ). List·Memᴰ (labelFor code info refs e) x) (sym (ap labelOf is ∙ head-marks _ _)) (List·Memᴰ·head refl))
+        record { inside = omega (arith, added-inside code info refs e 0 h w); label = subst (λ (x : List ℕ). List·Memᴰ (labelFor code info refs e) x) (sym (ap labelOf is ∙ head-marks _ _)) (List·Memᴰ·head refl) }
       where
         first : (e : ℕ) → 0 < length (lostRefs code info refs e) → getD (blockOn code info refs e) 0 nop ≡ made Label 0 (attrFor code info refs e) (labelFor code info refs e) []
         first e s = unfold blockOn in block-head (attrFor code info refs e) (labelFor code info refs e) (targetOf code e) (lostRefs code info refs e) s
+
+    pub offset-new : (e : ℕ) → e < 2 * length code → 0 < length (lostRefs code info refs e) → labelOffset (transformCode code info refs) (labelFor code info refs e) ≡ startOf code info refs e
+    offset-new e h s = new-offset (labelFor code info refs e) (startOf code info refs e) (new-stands e h s)
 
     -- ---- where the edges go
 
@@ -112,18 +128,20 @@ module _ (code : List Bytecode) (info : List LiveVarInfo) (refs : ℕ) where
     empty [] h = refl
     empty (x ∷ xs) h = absurd (not-suc-le-zero h)
 
+    away : (e : ℕ) → isLosing code info refs e ≡ true → goesTo code info refs e ≡ labelFor code info refs e
+    unfolding goesTo
+    away e f = ap (λ (b : Bool). cond b (labelFor code info refs e) (targetOf code e)) f
+
+    stays : (e : ℕ) → isLosing code info refs e ≡ false → goesTo code info refs e ≡ targetOf code e
+    unfolding goesTo
+    stays e f = ap (λ (b : Bool). cond b (labelFor code info refs e) (targetOf code e)) f
+
     pub goes : (e : ℕ) → e < 2 * length code → Target (targetOf code e) → GoesTo e
     goes e h t =
         by-test (λ b. isLosing code info refs e ≡ b → GoesTo e) (isLosing code info refs e)
-        (λ f q. round (losing-some code info refs e f) (ap (labelOffset (transformCode code info refs)) (away f) ∙ offset-new e h (losing-some code info refs e f)))
-        (λ f q. straight (none f) (ap (labelOffset (transformCode code info refs)) (stays f) ∙ offset-old (targetOf code e) t)) refl
+        (λ f q. round (losing-some code info refs e f) (ap (labelOffset (transformCode code info refs)) (away e f) ∙ offset-new e h (losing-some code info refs e f)))
+        (λ f q. straight (none f) (ap (labelOffset (transformCode code info refs)) (stays e f) ∙ offset-old (targetOf code e) t)) refl
       where
-        away : isLosing code info refs e ≡ true → goesTo code info refs e ≡ labelFor code info refs e
-        away f = unfold goesTo in ap (λ (b : Bool). cond b (labelFor code info refs e) (targetOf code e)) f
-
-        stays : isLosing code info refs e ≡ false → goesTo code info refs e ≡ targetOf code e
-        stays f = unfold goesTo in ap (λ (b : Bool). cond b (labelFor code info refs e) (targetOf code e)) f
-
         none : isLosing code info refs e ≡ false → lostRefs code info refs e ≡ []
         none f = unfold isLosing in empty (lostRefs code info refs e) (omega (arith, ltb-false 0 (length (lostRefs code info refs e)) f))
 
@@ -146,12 +164,14 @@ module _ (code : List Bytecode) (info : List LiveVarInfo) (refs : ℕ) where
     edge-target-is k e h s q =
         target (e / 2) (targetOf code e) (omega arith) (target-named code info refs e (ap (λ (x : ℕ). at code x .kind) s ∙ q))
 
-    goes-lt : (e : ℕ) → e < 2 * length code → Target (targetOf code e) → GoesTo e → labelOffset (transformCode code info refs) (goesTo code info refs e) < length (transformCode code info refs)
-    goes-lt e h t (round s q) = omega (arith, added-inside code info refs e 0 h (omega (arith, size-is (lostRefs code info refs e) s)))
-    goes-lt e h t (straight s q) = omega (arith, pos-inside code info refs (labelOffset code (targetOf code e)) (t .inside) (t .kept))
+    old-defined : (l : ℕ) → Target l → Defined (transformCode code info refs) l
+    old-defined l t = new-defined l (pos code info (labelOffset code l)) (old-stands l t)
 
-    old-lt : (l : ℕ) → Target l → labelOffset (transformCode code info refs) l < length (transformCode code info refs)
-    old-lt l t = omega (arith, offset-old l t, pos-inside code info refs (labelOffset code l) (t .inside) (t .kept))
+    goes-defined : (e : ℕ) → e < 2 * length code → Target (targetOf code e) → Defined (transformCode code info refs) (goesTo code info refs e)
+    goes-defined e h t =
+        by-test (λ b. isLosing code info refs e ≡ b → Defined (transformCode code info refs) (goesTo code info refs e)) (isLosing code info refs e)
+        (λ f q. subst (Defined (transformCode code info refs)) (sym (away e f)) (new-defined (labelFor code info refs e) (startOf code info refs e) (new-stands e h (losing-some code info refs e f))))
+        (λ f q. subst (Defined (transformCode code info refs)) (sym (stays e f)) (old-defined (targetOf code e) t)) refl
 
     pub last-kept : isDropped code info (length code - 1) ≡ false
     last-kept =
@@ -165,22 +185,22 @@ module _ (code : List Bytecode) (info : List LiveVarInfo) (refs : ℕ) where
       closed = closed (length (transformCode code info refs) - 1) (omega (arith, pos-inside code info refs (length code - 1) (omega (arith, sound .some)) last-kept)) (where-is code info refs (length (transformCode code info refs) - 1) (omega (arith, new-length code info refs, pos-inside code info refs (length code - 1) (omega (arith, sound .some)) last-kept)));
     }
       where
-        by-name : (k l : ℕ) → k < length code → Names k l → labelOffset (transformCode code info refs) l < length (transformCode code info refs)
-        by-name k l h (same i q) = old-lt l (target k l h i)
+        by-name : (k l : ℕ) → k < length code → Names k l → Defined (transformCode code info refs) l
+        by-name k l h (same i q) = old-defined l (target k l h i)
         by-name k l h (edge e s b q z) =
             let t = edge-target-is k e h s q in
-            subst (λ (x : ℕ). labelOffset (transformCode code info refs) x < length (transformCode code info refs)) (sym z) (goes-lt e b t (goes e b t))
+            subst (Defined (transformCode code info refs)) (sym z) (goes-defined e b t)
 
         by-part : (e j p l : ℕ) → e < 2 * length code → j < blockSize (lostRefs code info refs e) → List·Memᴰ l (branchDests (at (transformCode code info refs) p))
             → Part (attrFor code info refs e) (labelFor code info refs e) (targetOf code e) (lostRefs code info refs e) j (at (transformCode code info refs) p)
-            → labelOffset (transformCode code info refs) l < length (transformCode code info refs)
+            → Defined (transformCode code info refs) l
         by-part e j p l b w m (Part.head z q) = absurd (List·Memᴰ·not-nil (subst (λ (x : List ℕ). List·Memᴰ l x) (ap branchDests q ∙ head-names _ _) m))
         by-part e j p l b w m (Part.destroy i g z q) = absurd (List·Memᴰ·not-nil (subst (λ (x : List ℕ). List·Memᴰ l x) (ap branchDests q ∙ destroy-names _ _) m))
         by-part e j p l b w m (Part.last z q) =
             let s : l ≡ targetOf code e = List·Memᴰ·eq-of-singleton (subst (λ (x : List ℕ). List·Memᴰ l x) (ap branchDests q ∙ last-names _ _) m) in
-            subst (λ (x : ℕ). labelOffset (transformCode code info refs) x < length (transformCode code info refs)) (sym s) (old-lt (targetOf code e) (losing-target e b (size-some (lostRefs code info refs e) (omega arith))))
+            subst (Defined (transformCode code info refs)) (sym s) (old-defined (targetOf code e) (losing-target e b (size-some (lostRefs code info refs e) (omega arith))))
 
-        named : (p l : ℕ) → p < length (transformCode code info refs) → List·Memᴰ l (branchDests (at (transformCode code info refs) p)) → Where code info refs p → labelOffset (transformCode code info refs) l < length (transformCode code info refs)
+        named : (p l : ℕ) → p < length (transformCode code info refs) → List·Memᴰ l (branchDests (at (transformCode code info refs) p)) → Where code info refs p → Defined (transformCode code info refs) l
         named p l h m (Where.kept i b e s) = by-name i l b (stands-names i l b (subst (λ (r : Bytecode). List·Memᴰ l (branchDests r)) (ap (at (transformCode code info refs)) s ∙ new-kept code info refs i b e) m))
         named p l h m (Where.added e j b w s) = by-part e j p l b w m (subst (λ (x : ℕ). Part (attrFor code info refs e) (labelFor code info refs e) (targetOf code e) (lostRefs code info refs e) j (at (transformCode code info refs) x)) (sym s) (added-part code info refs e j b w))
 

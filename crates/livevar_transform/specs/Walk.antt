@@ -11,7 +11,7 @@ use Rattle.stackless_bytecode.specs.declared.Bytecode.{Bytecode}
 use Rattle.base.specs.Sizes.{maxLocals}
 use Rattle.base.specs.Lists.{keep}
 use Rattle.stackless_bytecode.specs.Kinds.{Assign, Call, Load, Branch, at}
-use Rattle.stackless_bytecode.specs.Successors.{labelOffset}
+use Rattle.stackless_bytecode.specs.Labels.{labelOffset}
 use Rattle.livevar_analysis.specs.Analysis.{LiveVarInfo}
 use Rattle.livevar_transform.specs.Rewrite.{aimed, into, destroyBlock, infoAt, nextFreeLabel, nextFreeAttr, labelFor, attrFor, addedCode, transformCode}
 

@@ -16,7 +16,7 @@ use Rattle.stackless_bytecode.specs.declared.Bytecode.{Bytecode}
 use Rattle.base.specs.Sizes.{maxLocals}
 use Rattle.base.specs.Lists.{keep, count, total, joins}
 use Rattle.stackless_bytecode.specs.Kinds.{Assign, Call, Branch, nop, at}
-use Rattle.stackless_bytecode.specs.Successors.{labelOffset}
+use Rattle.stackless_bytecode.specs.Labels.{labelOffset}
 use Rattle.livevar_analysis.specs.Analysis.{LiveVarInfo}
 use Rattle.livevar_transform.specs.Rewrite.{aimed, into, destroyBlock, blockSize, infoAt, isDead, isMerged, isDropped, targetOf, nextFreeLabel, nextFreeAttr, lostRefs, isLosing, labelFor, attrFor, goesTo, standsFor, keptCode, blockOn, addedCode, transformCode}
 use Rattle.livevar_transform.specs.Walk.{Tail, edgeTail, edgeLabel, Done, front, mergesInto, deadIn, lostTo, walk, walked, Walked}

@@ -40,8 +40,11 @@ const CODE_LINE_BYTES: usize = 60 + 6 * NUMBER + PAYLOAD + 2 * LIST_PLACES * (2 
 
 const CODE_BYTES: usize = HEADING_BYTES + MAX_INSTRUCTIONS * CODE_LINE_BYTES;
 
-// The blocks: a line for each, and how many there are.
-const FLOW_BYTES: usize = MAX_INSTRUCTIONS * (24 + 6 * NUMBER) + 8 + NUMBER;
+// The Labels that nobody names, " L" before each.
+const UNNAMED_BYTES: usize = 12 + MAX_INSTRUCTIONS * (2 + NUMBER);
+
+// The blocks: a line for each, how many there are, and those Labels.
+const FLOW_BYTES: usize = MAX_INSTRUCTIONS * (24 + 6 * NUMBER) + 8 + NUMBER + UNNAMED_BYTES;
 
 // The live sets: a line of two sets for each instruction, and the count of blocks taken.
 const LIVE_TEXT_BYTES: usize = MAX_INSTRUCTIONS

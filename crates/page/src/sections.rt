@@ -15,7 +15,7 @@ ghost use Rattle.livevar_transform.specs.RewriteWork.{Asked};
 ghost use Rattle.listing.specs.Words.{ascii};
 ghost use Rattle.listing.specs.Output.{Wrote};
 ghost use Rattle.pages.specs.Code.{codeText};
-ghost use Rattle.pages.specs.Page.{flowText, liveText, rewrittenText};
+ghost use Rattle.pages.specs.Page.{flowText, unnamedLine, liveText, rewrittenText};
 use base::Answer;
 use base::MAX_BYTES;
 use base::MAX_INSTRUCTIONS;
@@ -24,6 +24,7 @@ use flow_table::forward::table_of;
 use listing::output::put_bytes;
 use listing::text::put_refused;
 use page_tables::blocks::put_blocks;
+use page_tables::labels::put_unnamed;
 use page_tables::sets::put_lines;
 use pages::code::put_code;
 use rewrite::rewrite::rewrite_sheet;
@@ -39,15 +40,16 @@ pub fn put_code_section(s: &[u8], out: &mut [u8], at: usize) -> usize
     put_code(s, out, e)
 }
 
-// The blocks of a checked sheet.
+// The blocks of a checked sheet, and the Labels that nobody names.
 pub fn put_flow_section(s: &[u8], n: usize, targets: &[u16], out: &mut [u8], at: usize) -> usize
     requires { ⌜ CheckedSheet (now s) n (now targets) ⌝ }
-    ensures { λ r. ⌜ Wrote (now (out .entry)) at (ascii "\nflow\n" ++ flowText (blocksOf (codeOf (now (s .entry)))) (flowTable (codeOf (now (s .entry))))) (now (out .exit)) r ⌝ }
+    ensures { λ r. ⌜ Wrote (now (out .entry)) at (ascii "\nflow\n" ++ flowText (blocksOf (codeOf (now (s .entry)))) (flowTable (codeOf (now (s .entry)))) ++ unnamedLine (codeOf (now (s .entry)))) (now (out .exit)) r ⌝ }
 {
     let mut table = [0u16; TABLE];
     let m = table_of(s, n, targets, &mut table);
     let e = put_bytes(b"\nflow\n", out, at);
-    put_blocks(&table, m, out, e)
+    let b = put_blocks(&table, m, out, e);
+    put_unnamed(s, n, targets, out, b)
 }
 
 // The live sets of n instructions, which are in `sets`.

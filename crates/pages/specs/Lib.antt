@@ -5,10 +5,12 @@ pub mod Size
 pub mod Page
 -- What the inner contracts say.
 pub mod Parts
+pub mod Marks
 -- Laws.
 pub mod WordLaws
 pub mod CodeLaws
 pub mod SectionLaws
+pub mod UnnamedLaws
 pub mod PageLaws
 pub mod LineSizeLaws
 pub mod PageSizeLaws

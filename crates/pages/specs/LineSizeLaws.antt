@@ -38,7 +38,7 @@ local-most x h = decimal-short (1 + (maxLocals + 155) / 256) x (omega arith)
 pub said-most : (w : List ℕ) (x d : ℕ) → length (decimal x) ≤ d → length (said w x) ≤ length w + d
 said-most w x d h = omega (arith, length-append w (decimal x))
 
-cond-most : (b : Bool) (x y : List ℕ) (n : ℕ) → length x ≤ n → length y ≤ n → length (cond b x y) ≤ n
+pub cond-most : (b : Bool) (x y : List ℕ) (n : ℕ) → length x ≤ n → length y ≤ n → length (cond b x y) ≤ n
 cond-most true x y n h g = h
 cond-most false x y n h g = g
 

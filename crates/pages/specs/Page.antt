@@ -1,11 +1,16 @@
--- The page of a sheet: its code, the blocks and where they lead, the live sets, and the rewritten code; and what the call replies. Assumes nothing.
+-- The page of a sheet: its code, the blocks, where they lead and the Labels that nobody names, the live sets, and the rewritten code; and what the call replies. Assumes nothing.
 use Prim.Native.Nat.{ℕ, _*_}
-use mathlib.Core.List.{List, _++_}
+use mathlib.Core.Bool.{cond}
+use mathlib.Core.List.{List, [], _++_}
+use lib.Dec.{eqb}
 use lib.ListN.{getD, length}
-use Rattle.base.specs.Lists.{joins}
+use Rattle.base.specs.Lists.{gather, joins}
 use Rattle.base.specs.Bytes.{part}
 use Rattle.base.specs.Sizes.{rowNumbers, maxBytes}
 use Rattle.base.specs.Refusals.{Verdict, Accepted, Refused, lends, Reply, No, Done, reply}
+use Rattle.stackless_bytecode.specs.declared.Bytecode.{Bytecode}
+use Rattle.stackless_bytecode.specs.Kinds.{labelOf}
+use Rattle.stackless_bytecode.specs.Labels.{lookup, isNamed}
 use Rattle.sheet.specs.Layout.{localsOf, codeOf}
 use Rattle.sheet.specs.Checks.{checkSheet}
 use Rattle.stackless_control_flow_graph.specs.Blocks.{blocksOf, flowTable}
@@ -34,6 +39,18 @@ blockLine row = boundsText row ++ leadsText row ++ ascii "\n"
 unfoldable pub flowText : ℕ → List ℕ → List ℕ
 flowText m table = joins m (λ i. blockLine (part table (rowNumbers * i) rowNumbers)) ++ said (ascii "blocks ") m ++ ascii "\n"
 
+-- " L3", where nobody names the label
+unfoldable pub unnamedText : List Bytecode → ℕ → List ℕ
+unnamedText code l = cond (isNamed (lookup code l)) [] (said (ascii " L") l)
+
+-- " L3 L7": the Labels that nobody names, by offset
+unfoldable pub unnamedLabels : List Bytecode → List ℕ
+unnamedLabels code = gather (unnamedText code) (gather labelOf code)
+
+-- "never named L3 L7", and nothing where there are none
+unfoldable pub unnamedLine : List Bytecode → List ℕ
+unnamedLine code = cond (eqb (length (unnamedLabels code)) 0) [] (ascii "never named" ++ unnamedLabels code ++ ascii "\n")
+
 -- ---- live sets
 
 -- a set in hex, and its locals
@@ -61,7 +78,7 @@ sections s =
     let code = codeOf s in
     let live = analyze code (localsOf s) in
     (ascii "code\n" ++ codeText s)
-    ++ (ascii "\nflow\n" ++ flowText (blocksOf code) (flowTable code))
+    ++ (ascii "\nflow\n" ++ flowText (blocksOf code) (flowTable code) ++ unnamedLine code)
     ++ (ascii "\nlive\n" ++ liveText (live .info) (live .taken))
     ++ (ascii "\nrewritten\n" ++ rewrittenText (rewriteReply s maxBytes))
 

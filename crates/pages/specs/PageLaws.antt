@@ -25,7 +25,7 @@ use Rattle.listing.specs.Words.{ascii}
 use Rattle.listing.specs.Lines.{refusedText}
 use Rattle.pages.specs.Code.{codeText}
 use Rattle.pages.specs.Size.{pageBytes}
-use Rattle.pages.specs.Page.{flowText, liveText, rewrittenText, sections, pageBy, page, pageReply}
+use Rattle.pages.specs.Page.{flowText, unnamedLine, liveText, rewrittenText, sections, pageBy, page, pageReply}
 
 -- ---- the rewritten code
 
@@ -66,7 +66,7 @@ module _ (s out out′ : List ℕ) (a : Answer) (accepted : checkSheet s ≡ Acc
 -- ---- the page
 
 pub sections-is : (s : List ℕ)
-    → (ascii "code\n" ++ codeText s) ++ (ascii "\nflow\n" ++ flowText (blocksOf (codeOf s)) (flowTable (codeOf s))) ++ (ascii "\nlive\n" ++ liveText (analyze (codeOf s) (localsOf s) .info) (analyze (codeOf s) (localsOf s) .taken)) ++ (ascii "\nrewritten\n" ++ rewrittenText (rewriteReply s maxBytes)) ≡ sections s
+    → (ascii "code\n" ++ codeText s) ++ (ascii "\nflow\n" ++ flowText (blocksOf (codeOf s)) (flowTable (codeOf s)) ++ unnamedLine (codeOf s)) ++ (ascii "\nlive\n" ++ liveText (analyze (codeOf s) (localsOf s) .info) (analyze (codeOf s) (localsOf s) .taken)) ++ (ascii "\nrewritten\n" ++ rewrittenText (rewriteReply s maxBytes)) ≡ sections s
 unfolding sections
 sections-is s = refl
 

@@ -1,25 +1,29 @@
 -- No page is longer than is counted. Assumes nothing.
-use mathlib.Core.Path.{_≡_, refl, sym, subst}
+use mathlib.Core.Path.{_≡_, refl, sym, ap, subst}
 use mathlib.Core.Bool.{Bool, true, cond}
 use mathlib.Core.Logic.{⊎-elim}
 use mathlib.Core.List.{List, [], _∷_, _++_, map, List·Memᴰ, List·Memᴰ·head, List·Memᴰ·tail, List·Memᴰ·append-cases}
-use Prim.Native.Nat.{ℕ, suc, _*_, _≤_, _<_}
+use Prim.Native.Nat.{ℕ, suc, _+_, _*_, _≤_, _<_}
 use native.Mathlib.Omega.{arith}
 use lib.Dec.{eqb}
 use lib.ListN.{length, getD, drop, replicate, length-append, List·getD-eq-default}
 use Rattle.base.specs.Sizes.{rowNumbers, maxNumber, maxInstructions, maxBytes}
-use Rattle.base.specs.Lists.{joins, place}
-use Rattle.base.specs.ListLaws.{by-test, getD-in, in-take, in-drop, in-map, in-gather}
+use Rattle.base.specs.Lists.{joins, gather, place}
+use Rattle.base.specs.ListLaws.{by-test, getD-in, in-take, in-drop, in-map, in-gather, in-getD}
 use Rattle.base.specs.JoinLaws.{by-lt}
 use Rattle.base.specs.Bytes.{part, Bytes}
 use Rattle.base.specs.Refusals.{Verdict, Accepted, Refused, Reply, No, Done}
 use Rattle.stackless_bytecode.specs.declared.Bytecode.{Bytecode}
-use Rattle.stackless_bytecode.specs.Kinds.{at, isExit}
+use Rattle.stackless_bytecode.specs.Kinds.{Label, nop, at, isExit, labelOf}
+use Rattle.stackless_bytecode.specs.KindLaws.{label-one}
+use Rattle.stackless_bytecode.specs.Labels.{lookup, isNamed}
 use Rattle.stackless_bytecode.specs.Successors.{successors}
 use Rattle.stackless_bytecode.specs.Sound.{Sound}
 use Rattle.sheet.specs.Layout.{localsOf, codeOf}
 use Rattle.sheet.specs.Checks.{checkSheet}
 use Rattle.sheet.specs.CheckLaws.{code-sound}
+use Rattle.sheet_writer.specs.EncodeLaws.{Encodes}
+use Rattle.sheet_writer.specs.BodyLaws.{accepted-body}
 use Rattle.stackless_control_flow_graph.specs.Blocks.{lowers, blocksOf, upperOf, keyed, keyOf, succKeys, row, flowTable}
 use Rattle.stackless_control_flow_graph.specs.BlockLaws.{upper-lt}
 use Rattle.stackless_control_flow_graph.specs.FlowLaws.{in-lowers, keys-blocks}
@@ -34,9 +38,9 @@ use Rattle.listing.specs.NumberLaws.{decimal-short, hex-length}
 use Rattle.listing.specs.TextLaws.{taken-few, refused-short}
 use Rattle.pages.specs.Words.{marked}
 use Rattle.pages.specs.Code.{localsIn, codeText}
-use Rattle.pages.specs.Page.{boundsText, leadsText, blockLine, flowText, setText, liveLine, liveText, rewrittenText, sections, pageBy, page}
-use Rattle.pages.specs.Size.{numberDigits, payloadDigits, codeBytes, blockLineBytes, flowBytes, setTextBytes, liveLineBytes, liveTextBytes, pageBytes}
-use Rattle.pages.specs.LineSizeLaws.{number-most, said-most, marked-most, joins-most, locals-most, code-most}
+use Rattle.pages.specs.Page.{boundsText, leadsText, blockLine, flowText, unnamedText, unnamedLabels, unnamedLine, setText, liveLine, liveText, rewrittenText, sections, pageBy, page}
+use Rattle.pages.specs.Size.{numberDigits, payloadDigits, codeBytes, blockLineBytes, unnamedBytes, flowBytes, setTextBytes, liveLineBytes, liveTextBytes, pageBytes}
+use Rattle.pages.specs.LineSizeLaws.{number-most, said-most, cond-most, marked-most, joins-most, locals-most, code-most}
 
 -- ---- the numbers of the flow table
 
@@ -108,7 +112,8 @@ block-most r low =
       marked-most (ascii " ") (getD r 5 0) numberDigits (digits 5),
     )
 
-flow-most : (m : ℕ) (t : List ℕ) → m ≤ maxInstructions → Low t → length (flowText m t) ≤ flowBytes
+-- with the bytes that are left for the Labels that nobody names
+flow-most : (m : ℕ) (t : List ℕ) → m ≤ maxInstructions → Low t → length (flowText m t) + unnamedBytes ≤ flowBytes
 unfolding flowText
 flow-most m t h low =
     omega (
@@ -118,6 +123,42 @@ flow-most m t h low =
       joins-most blockLineBytes m (λ i. blockLine (part t (rowNumbers * i) rowNumbers)) (λ i l. block-most (part t (rowNumbers * i) rowNumbers) (low-part t (rowNumbers * i) rowNumbers low)),
       said-most (ascii "blocks ") m numberDigits (number-most m (omega arith)),
     )
+
+-- ---- the Labels that nobody names
+
+gather-most : (m : ℕ) (f : ℕ → List ℕ) (xs : List ℕ) → ((x : ℕ) → List·Memᴰ x xs → length (f x) ≤ m) → length (gather f xs) ≤ length xs * m
+unfolding gather
+gather-most m f [] h = omega arith
+gather-most m f (x ∷ xs) h = omega (arith, length-append (f x) (gather f xs), h x (List·Memᴰ·head refl), gather-most m f xs (λ y i. h y (List·Memᴰ·tail i)))
+
+labels-few : (code : List Bytecode) → length (gather labelOf code) ≤ length code
+unfolding gather labelOf
+labels-few [] = omega arith
+labels-few (r ∷ rs) =
+    by-test (λ b. length (cond b (r .one ∷ []) [] ++ gather labelOf rs) ≤ suc (length rs)) (eqb (r .kind) Label) (λ _. omega (arith, labels-few rs)) (λ _. omega (arith, labels-few rs))
+
+module _ (code : List Bytecode) (encodes : (k : ℕ) → k < length code → Encodes (at code k)) where
+  -- their numbers have 16 bits
+  label-low : (l : ℕ) → List·Memᴰ l (gather labelOf code) → l ≤ maxNumber
+  label-low l i =
+      let r = in-gather labelOf code l i in
+      let p = in-getD code (r .0) nop (r .1) in
+      omega (arith, label-one (r .0) l (r .2), ap (λ (x : Bytecode). x .one) (p .2), encodes (p .0) (p .1) .one)
+
+  unnamed-text-most : (l : ℕ) → List·Memᴰ l (gather labelOf code) → length (unnamedText code l) ≤ 2 + numberDigits
+  unfolding unnamedText
+  unnamed-text-most l i =
+      cond-most (isNamed (lookup code l)) [] (said (ascii " L") l) (2 + numberDigits) (omega arith) (said-most (ascii " L") l numberDigits (number-most l (label-low l i)))
+
+  unnamed-labels-most : length (unnamedLabels code) ≤ length code * (2 + numberDigits)
+  unfolding unnamedLabels
+  unnamed-labels-most = omega (arith, gather-most (2 + numberDigits) (unnamedText code) (gather labelOf code) unnamed-text-most, labels-few code)
+
+  unnamed-most : length code ≤ maxInstructions → length (unnamedLine code) ≤ unnamedBytes
+  unfolding unnamedLine
+  unnamed-most few =
+      cond-most (eqb (length (unnamedLabels code)) 0) [] (ascii "never named" ++ unnamedLabels code ++ ascii "\n") unnamedBytes (omega arith)
+      (omega (arith, length-append (ascii "never named" ++ unnamedLabels code) (ascii "\n"), length-append (ascii "never named") (unnamedLabels code), unnamed-labels-most))
 
 -- ---- live sets
 
@@ -167,19 +208,22 @@ module _ (s : List ℕ) (bytes : Bytes s) (accepted : checkSheet s ≡ Accepted)
   sections-most =
       let live = analyze (codeOf s) (localsOf s) in
       let flow = flowText (blocksOf (codeOf s)) (flowTable (codeOf s)) in
+      let unnamed = unnamedLine (codeOf s) in
       let sets = liveText (live .info) (live .taken) in
       let new = rewrittenText (rewriteReply s maxBytes) in
       omega (
         arith,
-        length-append ((ascii "code\n" ++ codeText s) ++ (ascii "\nflow\n" ++ flow) ++ (ascii "\nlive\n" ++ sets)) (ascii "\nrewritten\n" ++ new),
-        length-append ((ascii "code\n" ++ codeText s) ++ (ascii "\nflow\n" ++ flow)) (ascii "\nlive\n" ++ sets),
-        length-append (ascii "code\n" ++ codeText s) (ascii "\nflow\n" ++ flow),
+        length-append ((ascii "code\n" ++ codeText s) ++ (ascii "\nflow\n" ++ flow ++ unnamed) ++ (ascii "\nlive\n" ++ sets)) (ascii "\nrewritten\n" ++ new),
+        length-append ((ascii "code\n" ++ codeText s) ++ (ascii "\nflow\n" ++ flow ++ unnamed)) (ascii "\nlive\n" ++ sets),
+        length-append (ascii "code\n" ++ codeText s) (ascii "\nflow\n" ++ flow ++ unnamed),
         length-append (ascii "code\n") (codeText s),
+        length-append (ascii "\nflow\n" ++ flow) unnamed,
         length-append (ascii "\nflow\n") flow,
         length-append (ascii "\nlive\n") sets,
         length-append (ascii "\nrewritten\n") new,
         code-most s bytes accepted,
         flow-most (blocksOf (codeOf s)) (flowTable (codeOf s)) (omega (arith, blocks-few (codeOf s), few)) (table-low (codeOf s) (code-sound s accepted) few),
+        unnamed-most (codeOf s) (accepted-body s bytes accepted .encodes) few,
         live-most (live .info) (live .taken) (omega (arith, term3 s accepted .count, few)) (decimal-short 9 (live .taken) (omega (arith, taken-few s accepted))),
         rewritten-most (rewriteReply s maxBytes) refl,
       )

@@ -37,9 +37,13 @@ codeBytes = headingBytes + maxInstructions * codeLineBytes
 abbrev pub blockLineBytes : ℕ
 blockLineBytes = 24 + 6 * numberDigits
 
--- a line for each block, and how many there are
+-- the Labels that nobody names, " L" before each
+abbrev pub unnamedBytes : ℕ
+unnamedBytes = 12 + maxInstructions * (2 + numberDigits)
+
+-- a line for each block, how many there are, and those Labels
 abbrev pub flowBytes : ℕ
-flowBytes = maxInstructions * blockLineBytes + 8 + numberDigits
+flowBytes = maxInstructions * blockLineBytes + 8 + numberDigits + unnamedBytes
 
 -- ---- live sets
 
@@ -55,6 +59,6 @@ liveTextBytes = maxInstructions * liveLineBytes + 7 + payloadDigits
 
 -- ---- the page
 
--- four sections and their titles: 972,500 bytes with 64 locals
+-- four sections and their titles: 979,630 bytes with 64 locals
 abbrev pub pageBytes : ℕ
 pageBytes = 28 + 2 * codeBytes + flowBytes + liveTextBytes

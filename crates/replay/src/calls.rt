@@ -7,6 +7,7 @@ use agreement::conditional_agrees;
 use agreement::dying_agrees;
 use agreement::flow_agrees;
 use agreement::in_use_agrees;
+use agreement::label_agrees;
 use agreement::live_agrees;
 use agreement::renumber_agrees;
 use agreement::rewrite_agrees;
@@ -29,6 +30,9 @@ const TRIPLE_NUMBERS: usize = 1021;
 
 // A number of numbers that no list of triples has.
 const NO_GRAPH: usize = TRIPLE_NUMBERS + 1;
+
+// The bytes of an asked node or label.
+const ASKED_BYTES: usize = 4;
 
 // The longest graph.
 pub const GRAPH_BYTES: usize = TRIPLES_AT + 4 * TRIPLE_NUMBERS;
@@ -97,6 +101,13 @@ fn ask_renumber(sheet: &[u8], lent: usize, result: u64, want: &[u8]) -> Came {
     compared(renumber_agrees(sheet, lent, result, want, &mut out))
 }
 
+fn ask_label(sheet: &[u8], asked: &[u8], result: u64) -> Came {
+    if asked.len() != ASKED_BYTES {
+        return Came::Damaged;
+    }
+    compared(label_agrees(sheet, u32_at(asked, 0), result))
+}
+
 // In use, or conditional, of the node in four bytes.
 fn ask_node(conditional: bool, graph: &[u8], asked: &[u8], result: u64) -> Came {
     let mut triples = [0u32; TRIPLE_NUMBERS];
@@ -107,7 +118,7 @@ fn ask_node(conditional: bool, graph: &[u8], asked: &[u8], result: u64) -> Came 
     if graph.len() < TRIPLES_AT {
         return Came::Damaged;
     }
-    if asked.len() != 4 {
+    if asked.len() != ASKED_BYTES {
         return Came::Damaged;
     }
     let nodes = u32_at(graph, 0);
@@ -164,6 +175,7 @@ pub fn ask(op: u8, input: &[u8], second: &[u8], lent: usize, result: u64, want: 
         6 => ask_dying(input, second, lent, result, want),
         7 => compared(check_agrees(input, result)),
         8 => ask_renumber(input, lent, result, want),
+        9 => ask_label(input, second, result),
         _ => Came::Damaged,
     }
 }

@@ -12,7 +12,6 @@ use Rattle.base.specs.Refusals.{Accepted}
 use Rattle.base.specs.ListLaws.{and-true, or-not}
 use Rattle.base.specs.SearchLaws.{none-all}
 use Rattle.stackless_bytecode.specs.Kinds.{dstsOf, srcsOf, at, isFlagged, fallsThrough}
-use Rattle.stackless_bytecode.specs.SuccessorLaws.{offset-label}
 use Rattle.stackless_bytecode.specs.Sound.{Sound}
 use Rattle.sheet.specs.Layout.{countOf, localsOf, codeOf}
 use Rattle.sheet.specs.Checks.{localsOk, fresh, checkSheet}
@@ -33,8 +32,8 @@ accepted-valid s e = record {
   count = n;
   listed = λ k x h i. local-lt (localsOf s) (at (codeOf s) k) (ok k h) x i;
   abort = λ k h f. abort k h f;
-  inside = λ k l h i. omega (arith, n, sound .named k l (omega (arith, n)) i);
-  label = λ k l h i. offset-label (codeOf s) l (sound .named k l (omega (arith, n)) i);
+  inside = λ k l h i. omega (arith, n, sound .named k l (omega (arith, n)) i .inside);
+  label = λ k l h i. sound .named k l (omega (arith, n)) i .label;
   once = fresh-unique (codeOf s) (λ k h. none-all (length (codeOf s)) 0 (fresh (codeOf s)) (clear s e .six) k (omega arith) (omega arith));
   closed = ap (λ (x : ℕ). fallsThrough (at (codeOf s) x)) last ∙ sound .closed;
 }

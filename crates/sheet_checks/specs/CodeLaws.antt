@@ -6,7 +6,7 @@ use mathlib.Core.Option.{Option, none, some}
 use Prim.Native.Nat.{ℕ, _-_}
 use native.Mathlib.Omega.{arith}
 use lib.ListN.{length, take, drop}
-use Rattle.base.specs.Lists.{firstBad, gather}
+use Rattle.base.specs.Lists.{firstBad}
 use Rattle.base.specs.declared.Found.{Found}
 use Rattle.base.specs.declared.Found.the-variants.{At, Nothing}
 use Rattle.base.specs.declared.Checked.the-variants as checked
@@ -14,7 +14,7 @@ use Rattle.base.specs.declared.Refusal.the-variants.{LabelRepeated, LabelUndefi
 use Rattle.base.specs.Refusals.{Accepted, Refused, check, _then_}
 use Rattle.base.specs.RefusalLaws.{never, then-goes, then-stops, accepted-none, refused-at, found-at, found-none}
 use Rattle.stackless_bytecode.specs.declared.Bytecode.{Bytecode}
-use Rattle.stackless_bytecode.specs.Kinds.{at, labelOf, fallsThrough}
+use Rattle.stackless_bytecode.specs.Kinds.{at, fallsThrough}
 use Rattle.sheet_checks.specs.declared.labels.Labels.{Labels}
 use Rattle.sheet_checks.specs.declared.labels.Labels.the-variants.{Count, Repeated}
 use Rattle.sheet.specs.Layout.{localsOf, codeOf}
@@ -28,13 +28,13 @@ use Rattle.sheet.specs.Shaped.{Shaped, code-size}
 pub code-is : (s : List ℕ) (n : ℕ) → Shaped s n → checkCode (localsOf s) (codeOf s)
     ≡ (check 5 (firstBad n 0 (λ k. localsOk (localsOf s) (at (codeOf s) k)))
     then check 6 (firstBad n 0 (fresh (codeOf s)))
-    then check 7 (firstBad n 0 (λ k. namesOk (gather labelOf (codeOf s)) (at (codeOf s) k)))
+    then check 7 (firstBad n 0 (λ k. namesOk (codeOf s) (at (codeOf s) k)))
     then check 8 (firstBad 1 (n - 1) (λ k. not (fallsThrough (at (codeOf s) k)))))
 unfolding checkCode
 code-is s n h =
     ap (λ (m : ℕ). check 5 (firstBad m 0 (λ k. localsOk (localsOf s) (at (codeOf s) k)))
     then check 6 (firstBad m 0 (fresh (codeOf s)))
-    then check 7 (firstBad m 0 (λ k. namesOk (gather labelOf (codeOf s)) (at (codeOf s) k)))
+    then check 7 (firstBad m 0 (λ k. namesOk (codeOf s) (at (codeOf s) k)))
     then check 8 (firstBad 1 (m - 1) (λ k. not (fallsThrough (at (codeOf s) k))))) (code-size h)
 
 -- the last instruction: a search of one place

@@ -13,7 +13,7 @@ use lib.Seq.{take-suc-set, take-all, getD-set-same, getD-set-other}
 use Rattle.base.specs.Lists.{any, gather, has, keep, firstBad}
 use Rattle.base.specs.GrowLaws.{gather-more, keep-snoc}
 use Rattle.base.specs.ListLaws.{by-eq, copies-at}
-use Rattle.base.specs.SearchLaws.{bad-more, bad-stop, bad-end}
+use Rattle.base.specs.SearchLaws.{bad-start, bad-more, bad-stop, bad-end}
 use Rattle.dataflow_domains.specs.Mask.{holds, union}
 use Rattle.dataflow_domains.specs.MaskLaws.{bit-empty}
 use Rattle.dataflow_domains.specs.HoldsLaws.{false-holds, holds-union, holds-single}
@@ -21,7 +21,6 @@ use Rattle.stackless_bytecode.specs.declared.Bytecode.{Bytecode}
 use Rattle.stackless_bytecode.specs.Kinds.{Label, nop, at, labelOf}
 use Rattle.stackless_bytecode.specs.Slots.{labelPlaces}
 use Rattle.sheet.specs.Checks.{fresh}
-use Rattle.sheet_checks.specs.LocalLaws.{bad-start}
 use Rattle.sheet_checks.specs.declared.labels.Labels.the-variants.{Count, Repeated}
 use Rattle.sheet_checks.specs.Labelled.{seenWords, SeenBits, LabelLists, LabelsOf}
 

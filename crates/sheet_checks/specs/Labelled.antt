@@ -49,10 +49,10 @@ pub record Search (labels : List ℕ) (l j : ℕ) : Type 0 where
 
 -- the first instruction that names a label that no Label has; or the offset of each slot's label
 pub record Named (code : List Bytecode) (n : ℕ) (r : Found) (targets : List ℕ) : Type 0 where
-  pub first : r ≡ foundOf (firstBad n 0 (λ k. namesOk (gather labelOf code) (at code k)))
+  pub first : r ≡ foundOf (firstBad n 0 (λ k. namesOk code (at code k)))
   pub resolved : r ≡ Nothing → Resolved code targets
 
 -- what checks 6 and 7 answer, and what they leave where they accept
 pub record Labelled (code : List Bytecode) (n : ℕ) (r : Checked) (targets : List ℕ) : Type 0 where
-  pub answer : verdictOf r ≡ (check 6 (firstBad n 0 (fresh code)) then check 7 (firstBad n 0 (λ k. namesOk (gather labelOf code) (at code k))))
+  pub answer : verdictOf r ≡ (check 6 (firstBad n 0 (fresh code)) then check 7 (firstBad n 0 (λ k. namesOk code (at code k))))
   pub resolved : verdictOf r ≡ Accepted → Resolved code targets

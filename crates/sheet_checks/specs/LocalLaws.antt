@@ -2,22 +2,17 @@
 use mathlib.Core.Path.{_≡_, refl, sym, ap, ap₂, _∙_}
 use mathlib.Core.Bool.{Bool, true, false, not, _||_, _&&_}
 use mathlib.Core.List.{List, [], _∷_, _++_}
-use Prim.Native.Nat.{ℕ, suc, _+_, _-_, _≤_, _<_}
+use Prim.Native.Nat.{ℕ, suc, _+_, _≤_, _<_}
 use native.Mathlib.Numerals.{add-one}
 use native.Mathlib.Omega.{arith}
 use borrow.Author.Tests.{lt-ltb, le-ltb}
 use lib.Dec.{ltb}
 use lib.ListN.{getD, length, take, drop, length-take, drop-of-length-le}
 use lib.Seq.{drop-cons, getD-take}
-use Rattle.base.specs.Lists.{all, firstBad}
+use Rattle.base.specs.Lists.{all}
 use Rattle.stackless_bytecode.specs.declared.Bytecode.{Bytecode}
 use Rattle.stackless_bytecode.specs.Kinds.{dstsOf, srcsOf, isFlagged}
 use Rattle.sheet.specs.Checks.{localsOk}
-
--- ---- a search begins
-
-pub bad-start : (to : ℕ) (ok : ℕ → Bool) → firstBad to 0 ok ≡ firstBad (to - 0) 0 ok
-bad-start to ok = let e : to ≡ to - 0 = omega arith in ap (λ (n : ℕ). firstBad n 0 ok) e
 
 -- ---- `all`, one element a turn
 

@@ -1,7 +1,7 @@
 -- Check 7: the search for a label, one label a turn, and the search for a missing one, one slot a turn. Assumes nothing.
 use mathlib.Core.Path.{_≡_, refl, sym, ap, ap₂, _∙_, subst}
 use mathlib.Core.Bool.{Bool, true, false, cond, _||_, true≢false}
-use mathlib.Core.List.{List, _∷_}
+use mathlib.Core.List.{List, _∷_, List·Memᴰ}
 use mathlib.Core.Option.{some}
 use Prim.Native.Nat.{ℕ, zero, suc, _+_, _-_, _*_, _/_, _%_, _≤_, _<_}
 use native.Mathlib.Numerals.{add-one}
@@ -13,18 +13,19 @@ use lib.Seq.{drop-cons, getD-take, getD-drop, getD-set-same, getD-set-other}
 use Rattle.base.specs.Sizes.{recordBytes}
 use Rattle.base.specs.Lists.{gather, has, place, firstBad}
 use Rattle.base.specs.ListLaws.{by-eq, or-false, has-in}
-use Rattle.base.specs.SearchLaws.{bad-more, bad-stop, bad-end}
+use Rattle.base.specs.SearchLaws.{bad-start, bad-more, bad-stop, bad-end}
 use Rattle.stackless_bytecode.specs.declared.Bytecode.{Bytecode}
 use Rattle.stackless_bytecode.specs.Kinds.{at, branchDests, labelOf}
-use Rattle.stackless_bytecode.specs.Successors.{labelOffset}
+use Rattle.stackless_bytecode.specs.declared.Lookup.the-variants as lookups
+use Rattle.stackless_bytecode.specs.Labels.{lookup, isDefined, labelOffset}
+use Rattle.stackless_bytecode.specs.LookupLaws.{is-defined, defined, named-at}
 use Rattle.stackless_bytecode.specs.Slots.{noLabel, slotAt, named, halved}
-use Rattle.stackless_bytecode.specs.SlotLaws.{LabelsBelow, slots-first, offset-place, places-length}
+use Rattle.stackless_bytecode.specs.SlotLaws.{LabelsBelow, slot-names, slots-first, offset-place, places-length}
 use Rattle.base.specs.declared.Found.the-variants.{At, Nothing}
 use Rattle.sheet.specs.Layout.{recordStart, decode, instructionAt, codeOf}
 use Rattle.sheet.specs.Shaped.{Shaped, code-at}
 use Rattle.base.specs.Refusals.{foundOf}
 use Rattle.sheet.specs.Checks.{namesOk}
-use Rattle.sheet_checks.specs.LocalLaws.{bad-start}
 use Rattle.sheet_checks.specs.Labelled.{LabelLists, Search, Named}
 
 -- ---- one label a turn
@@ -93,8 +94,8 @@ list-end l p i found h e = sym (e ∙ ap (λ (x : List ℕ). found || has l x) (
 pub record Slots (code : List Bytecode) (n : ℕ) (targets₀ targets : List ℕ) (e : ℕ) : Type 0 where
   pub within : e ≤ 2 * n
   pub same : length targets ≡ length targets₀
-  pub first : firstBad (2 * n) 0 (λ d. named (gather labelOf code) (slotAt code d)) ≡ firstBad (2 * n - e) e (λ d. named (gather labelOf code) (slotAt code d))
-  pub each : (d : ℕ) → d < e → slotAt code d < noLabel → getD targets d 0 ≡ labelOffset code (slotAt code d)
+  pub first : firstBad (2 * n) 0 (λ d. named (λ l. isDefined (lookup code l)) (slotAt code d)) ≡ firstBad (2 * n - e) e (λ d. named (λ l. isDefined (lookup code l)) (slotAt code d))
+  pub each : (d : ℕ) → d < e → slotAt code d < noLabel → lookup code (slotAt code d) ≡ lookups.Named (getD targets d 0)
 
 pub slots-none : (code : List Bytecode) (n : ℕ) (targets : List ℕ) → Slots code n targets targets 0
 slots-none code n targets = record { within = omega arith; same = refl; first = bad-start (2 * n) _; each = λ d h. absurd (omega arith) }
@@ -105,14 +106,16 @@ module _ {code : List Bytecode} {n : ℕ} {targets₀ targets : List ℕ} {e : �
   slots-skip q = record {
     within = omega arith;
     same = s .same;
-    first = s .first ∙ bad-more (2 * n) e _ inside (ap (λ (b : Bool). b || has (slotAt code e) (gather labelOf code)) (eq-eqb (slotAt code e) noLabel (is ∙ q)));
+    first = s .first ∙ bad-more (2 * n) e _ inside (ap (λ (b : Bool). b || isDefined (lookup code (slotAt code e))) (eq-eqb (slotAt code e) noLabel (is ∙ q)));
     each = λ d h b. by-eq d e (λ p. absurd (omega (arith, ap (slotAt code) p))) (λ g. s .each d (omega arith) b);
   }
 
   module _ (some-label : l ≡ noLabel → ⊥) where
-    named-is : named (gather labelOf code) (slotAt code e) ≡ has l (gather labelOf code)
+    named-is : named (λ l. isDefined (lookup code l)) (slotAt code e) ≡ has l (gather labelOf code)
     unfolding named
-    named-is = ap (named (gather labelOf code)) is ∙ ap (λ (b : Bool). b || has l (gather labelOf code)) (ne-eqb l noLabel some-label)
+    named-is =
+        ap (named (λ l. isDefined (lookup code l))) is ∙ ap (λ (b : Bool). b || isDefined (lookup code l)) (ne-eqb l noLabel some-label)
+        ∙ is-defined code l
 
     pub slots-found : {labels places : List ℕ} → LabelLists code labels places → (j : ℕ) → Search labels l j → j < length labels → getD labels j 0 ≡ l
         → e < length targets → Slots code n targets₀ (set targets e (getD places j 0)) (e + 1)
@@ -120,7 +123,7 @@ module _ {code : List Bytecode} {n : ℕ} {targets₀ targets : List ℕ} {e : �
       within = omega arith;
       same = length-set targets e _ ∙ s .same;
       first = s .first ∙ bad-more (2 * n) e _ inside (named-is ∙ there);
-      each = λ d k b. by-eq d e (λ p. here d p) (λ g. getD-set-other targets e d _ 0 g ∙ s .each d (omega arith) b);
+      each = λ d k b. by-eq d e (λ p. here d p) (λ g. s .each d (omega arith) b ∙ sym (ap lookups.Named (getD-set-other targets e d _ 0 g)));
     }
       where
         found : (has l labels ≡ true) × (place l labels ≡ j)
@@ -129,13 +132,21 @@ module _ {code : List Bytecode} {n : ℕ} {targets₀ targets : List ℕ} {e : �
         there : has l (gather labelOf code) ≡ true
         there = ap (has l) (sym (lists .names)) ∙ found .0
 
-        here : (d : ℕ) → d ≡ e → getD (set targets e (getD places j 0)) d 0 ≡ labelOffset code (slotAt code d)
-        here d p =
-            ap (λ (x : ℕ). getD (set targets e (getD places j 0)) x 0) p ∙ getD-set-same targets e _ 0 room
-            ∙ ap₂ (λ (x : List ℕ) (y : ℕ). getD x y 0) (lists .offsets) (sym (found .1) ∙ ap (place l) (lists .names))
-            ∙ sym (offset-place code l (has-in l (gather labelOf code) there)) ∙ ap (labelOffset code) (sym is ∙ ap (slotAt code) (sym p))
+        names : (e / 2 < length code) × List·Memᴰ l (branchDests (at code (e / 2)))
+        names = slot-names code e l is some-label
 
-    pub slots-missing : has l (gather labelOf code) ≡ false → firstBad (2 * n) 0 (λ d. named (gather labelOf code) (slotAt code d)) ≡ some e
+        place-is : labelOffset code l ≡ getD places j 0
+        place-is =
+            offset-place code l (has-in l (gather labelOf code) there)
+            ∙ ap₂ (λ (x : List ℕ) (y : ℕ). getD x y 0) (sym (lists .offsets)) (sym (ap (place l) (lists .names)) ∙ found .1)
+
+        here : (d : ℕ) → d ≡ e → lookup code (slotAt code d) ≡ lookups.Named (getD (set targets e (getD places j 0)) d 0)
+        here d p =
+            ap (λ (x : ℕ). lookup code (slotAt code x)) p ∙ ap (lookup code) is
+            ∙ named-at code (e / 2) l (names .0) (names .1) (defined code l (is-defined code l ∙ there)) ∙ ap lookups.Named place-is
+            ∙ sym (ap lookups.Named (ap (λ (x : ℕ). getD (set targets e (getD places j 0)) x 0) p ∙ getD-set-same targets e _ 0 room))
+
+    pub slots-missing : has l (gather labelOf code) ≡ false → firstBad (2 * n) 0 (λ d. named (λ l. isDefined (lookup code l)) (slotAt code d)) ≡ some e
     slots-missing q = s .first ∙ bad-stop (2 * n) e _ inside (named-is ∙ q)
 
 -- the slot of the instruction that is read
@@ -160,11 +171,11 @@ code-below {s} h small k l = rw (code-at h k l) (bytes-below s small k)
 -- ---- the answer
 
 module _ (code : List Bytecode) (n : ℕ) (below : (k : ℕ) → k < n → LabelsBelow (at code k)) where
-  names-first : firstBad n 0 (λ k. namesOk (gather labelOf code) (at code k)) ≡ halved (firstBad (2 * n) 0 (λ d. named (gather labelOf code) (slotAt code d)))
+  names-first : firstBad n 0 (λ k. namesOk code (at code k)) ≡ halved (firstBad (2 * n) 0 (λ d. named (λ l. isDefined (lookup code l)) (slotAt code d)))
   unfolding namesOk
-  names-first = slots-first code (gather labelOf code) n below
+  names-first = slots-first code (λ l. isDefined (lookup code l)) n below
 
-  pub named-missing : {targets : List ℕ} {e : ℕ} → firstBad (2 * n) 0 (λ d. named (gather labelOf code) (slotAt code d)) ≡ some e → Named code n (At (e / 2)) targets
+  pub named-missing : {targets : List ℕ} {e : ℕ} → firstBad (2 * n) 0 (λ d. named (λ l. isDefined (lookup code l)) (slotAt code d)) ≡ some e → Named code n (At (e / 2)) targets
   named-missing q = record { first = sym (ap foundOf (names-first ∙ ap halved q)); resolved = λ z. absurd (let y : _≡_ {A = ℕ} 0 1 = cc in omega arith) }
 
   pub named-all : {targets₀ targets : List ℕ} {e : ℕ} → Slots code n targets₀ targets e → length code ≡ n → 2 * n ≤ e → Named code n Nothing targets

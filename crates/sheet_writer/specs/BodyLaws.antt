@@ -11,16 +11,16 @@ use Rattle.stackless_bytecode.specs.declared.Bytecode.{Bytecode}
 use Rattle.base.specs.Sizes.{maxInstructions, recordBytes, listPlaces}
 use Rattle.base.specs.Refusals.{Verdict, Accepted, _then_}
 use Rattle.base.specs.RefusalLaws.{then-goes, accepted-none, passed}
-use Rattle.base.specs.Lists.{gather, has}
 use Rattle.sheet.specs.Layout.{countOf, localsOf, recordStart, decode, codeOf, instructionAt, recordAt}
-use Rattle.stackless_bytecode.specs.Kinds.{nop, at, fallsThrough, branchDests, labelOf}
-use Rattle.stackless_bytecode.specs.Successors.{labelOffset, Unique}
+use Rattle.stackless_bytecode.specs.Kinds.{at, fallsThrough, branchDests}
+use Rattle.stackless_bytecode.specs.Labels.{lookup, isDefined}
+use Rattle.stackless_bytecode.specs.LookupLaws.{named-at}
+use Rattle.stackless_bytecode.specs.Successors.{Unique}
 use Rattle.sheet.specs.Checks.{recordOk, localsOk, fresh, namesOk, checkForm, checkCode, checkSheet}
 use Rattle.sheet.specs.Shaped.{Shaped, code-at, record-inside}
 use Rattle.sheet.specs.FormLaws.{form-shaped}
-use Rattle.base.specs.ListLaws.{in-has, gather-in, getD-in, in-getD}
+use Rattle.base.specs.ListLaws.{getD-in, in-getD}
 use Rattle.base.specs.JoinLaws.{by-lt}
-use Rattle.stackless_bytecode.specs.SuccessorLaws.{offset-label}
 use Rattle.stackless_bytecode.specs.Sound.{Sound}
 use Rattle.base.specs.SearchLaws.{all-none, none-all}
 use Rattle.sheet.specs.CheckLaws.{clear, Clear, code-length, code-sound}
@@ -43,11 +43,10 @@ pub record Body (l : ℕ) (code : List Bytecode) : Type 0 where
   pub unique : Unique code
   pub sound : Sound code
 
-names-ok : (code : List Bytecode) → Sound code → (k : ℕ) → k < length code → namesOk (gather labelOf code) (at code k) ≡ true
+names-ok : (code : List Bytecode) → Sound code → (k : ℕ) → k < length code → namesOk code (at code k) ≡ true
 unfolding namesOk
 names-ok code sound k h =
-    all-by (λ l. has l (gather labelOf code)) (branchDests (at code k))
-    (λ l i. let o = sound .named k l h i in in-has l (gather labelOf code) (gather-in labelOf code (getD-in code (labelOffset code l) nop o) (offset-label code l o)))
+    all-by (λ l. isDefined (lookup code l)) (branchDests (at code k)) (λ l i. ap isDefined (named-at code k l h i (sound .named k l h i)))
 
 -- checks 5 to 8 accept it
 pub code-accepted : (l : ℕ) (code : List Bytecode) → Body l code → checkCode l code ≡ Accepted
@@ -55,7 +54,7 @@ unfolding checkCode
 code-accepted l code b =
     both-accept (accepted-none 5 (all-none (length code) 0 (λ k. localsOk l (at code k)) (λ j i h. b .locals j (omega arith))))
     (both-accept (accepted-none 6 (all-none (length code) 0 (fresh code) (λ j l h. unique-fresh code (b .unique) j (omega arith))))
-    (both-accept (accepted-none 7 (all-none (length code) 0 (λ k. namesOk (gather labelOf code) (at code k)) (λ j l h. names-ok code (b .sound) j (omega arith))))
+    (both-accept (accepted-none 7 (all-none (length code) 0 (λ k. namesOk code (at code k)) (λ j l h. names-ok code (b .sound) j (omega arith))))
     (sym (accepted-none 8 (all-none 1 (length code - 1) (λ k. not (fallsThrough (at code k))) (λ j l h. let s : j ≡ length code - 1 = omega arith in ap not (ap (λ (x : ℕ). fallsThrough (at code x)) s ∙ b .sound .closed)))))))
 
 -- ---- the code of an accepted sheet

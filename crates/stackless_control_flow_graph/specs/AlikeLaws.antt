@@ -1,14 +1,19 @@
 -- Where instructions are changed but for where they go, blocks, keys and successors are as they were. Assumes nothing.
 use mathlib.Core.Path.{_≡_, refl, sym, ap, ap₂, _∙_, fun-ext}
-use mathlib.Core.Bool.{Bool, true, false, cond, _||_}
+use mathlib.Core.Bool.{Bool, true, false, cond, not, _||_}
 use mathlib.Core.List.{List, [], _∷_, _++_, map}
+use mathlib.Core.Option.{Option, none, some}
 use Prim.Native.Nat.{ℕ, zero, suc, _-_}
 use lib.ListN.{getD, length, length-map, List·getD-map}
-use Rattle.base.specs.Lists.{keep, gather, has, firsts}
+use Rattle.base.specs.Lists.{keep, gather, any, has, firsts, firstBad}
+use Rattle.base.specs.SearchLaws.{bad-same}
 use Rattle.stackless_bytecode.specs.declared.Bytecode.{Bytecode}
 use Rattle.stackless_bytecode.specs.Kinds.{nop, at, isBranch, fallsThrough, branchDests, labelOf}
-use Rattle.stackless_bytecode.specs.Successors.{labelFrom, labelOffset, ascending, successors}
-use Rattle.stackless_control_flow_graph.specs.Blocks.{targets, starts, lowers, lowerOf, upFrom, upperOf, keyed, keyOf}
+use Rattle.stackless_bytecode.specs.declared.Lookup.{Lookup}
+use Rattle.stackless_bytecode.specs.declared.Lookup.the-variants.{Named, Unnamed, Undefined}
+use Rattle.stackless_bytecode.specs.Labels.{lookup, offsetOf, isNamed, labelOffset}
+use Rattle.stackless_bytecode.specs.Successors.{ascending, successors}
+use Rattle.stackless_control_flow_graph.specs.Blocks.{starts, lowers, lowerOf, upFrom, upperOf, keyed, keyOf}
 use Rattle.stackless_control_flow_graph.specs.Backward.{nextsOf}
 
 -- f changes nothing of where an instruction goes
@@ -25,29 +30,38 @@ module _ {f : Bytecode → Bytecode} (same : KeepsFlow f) (code : List Bytecode)
 
   -- ---- successors
 
-  pub labels-alike : labelOffset (map f code) ≡ labelOffset code
-  unfolding labelOffset labelFrom
-  labels-alike = fun-ext (λ l. from l code 0)
+  length-alike : length (map f code) ≡ length code
+  length-alike = length-map code f
+
+  named-alike : (rs : List Bytecode) → gather branchDests (map f rs) ≡ gather branchDests rs
+  unfolding gather
+  named-alike [] = refl
+  named-alike (r ∷ rs) = ap₂ (λ (a b : List ℕ). a ++ b) (same .dests r) (named-alike rs)
+
+  pub lookup-alike : lookup (map f code) ≡ lookup code
+  unfolding lookup
+  lookup-alike = fun-ext each
     where
-      from : (l : ℕ) (rs : List Bytecode) (k : ℕ) → labelFrom (map f rs) k l ≡ labelFrom rs k l
-      from l [] k = refl
-      from l (r ∷ rs) k = ap₂ (λ (xs : List ℕ) (n : ℕ). cond (has l xs) k n) (same .label r) (from l rs (suc k))
+      answer : ℕ → Option ℕ → List ℕ → Lookup
+      answer l x names = elim x [ none ↦ Undefined | some o ↦ cond (has l names) (Named o) (Unnamed o) ]
+
+      label : (k : ℕ) → labelOf (at (map f code) k) ≡ labelOf (at code k)
+      label k = ap labelOf (at-alike k) ∙ same .label _
+
+      each : (l : ℕ) → lookup (map f code) l ≡ lookup code l
+      each l =
+          ap₂ (answer l)
+          (ap (λ (n : ℕ). firstBad n 0 (λ k. not (has l (labelOf (at (map f code) k))))) length-alike
+          ∙ bad-same (length code) 0 (λ k. not (has l (labelOf (at (map f code) k)))) (λ k. not (has l (labelOf (at code k)))) (λ k _ _. ap (λ (xs : List ℕ). not (has l xs)) (label k)))
+          (named-alike code)
 
   pub succs-alike : (k : ℕ) → successors (map f code) k ≡ successors code k
   unfolding successors
   succs-alike k =
-      ap₂ (λ (g : ℕ → ℕ) (r : Bytecode). ascending (map g (branchDests r) ++ cond (fallsThrough r) (suc k ∷ []) [])) labels-alike (at-alike k)
+      ap₂ (λ (g : ℕ → Lookup) (r : Bytecode). ascending (map (λ l. offsetOf (g l)) (branchDests r) ++ cond (fallsThrough r) (suc k ∷ []) [])) lookup-alike (at-alike k)
       ∙ ap₂ (λ (ls : List ℕ) (b : Bool). ascending (map (labelOffset code) ls ++ cond b (suc k ∷ []) [])) (same .dests _) (same .falls _)
 
   -- ---- blocks
-
-  targets-alike : targets (map f code) ≡ targets code
-  unfolding targets gather
-  targets-alike = ap₂ (λ (g : ℕ → ℕ) (ls : List ℕ). map g ls) labels-alike (named code)
-    where
-      named : (rs : List Bytecode) → gather branchDests (map f rs) ≡ gather branchDests rs
-      named [] = refl
-      named (r ∷ rs) = ap₂ (λ (a b : List ℕ). a ++ b) (same .dests r) (named rs)
 
   starts-alike : starts (map f code) ≡ starts code
   unfolding starts
@@ -55,10 +69,9 @@ module _ {f : Bytecode → Bytecode} (same : KeepsFlow f) (code : List Bytecode)
     where
       each : (k : ℕ) → starts (map f code) k ≡ starts code k
       each zero = refl
-      each (suc k) = ap₂ (λ (b : Bool) (ls : List ℕ). b || has (suc k) ls) (ap isBranch (at-alike k) ∙ same .ends _) targets-alike
-
-  length-alike : length (map f code) ≡ length code
-  length-alike = length-map code f
+      each (suc k) =
+          ap₂ (λ (b : Bool) (g : ℕ → Lookup). b || any (λ l. isNamed (g l)) (labelOf (at (map f code) (suc k)))) (ap isBranch (at-alike k) ∙ same .ends _) lookup-alike
+          ∙ ap (λ (ls : List ℕ). isBranch (at code k) || any (λ l. isNamed (lookup code l)) ls) (ap labelOf (at-alike (suc k)) ∙ same .label _)
 
   lowers-alike : lowers (map f code) ≡ lowers code
   unfolding lowers

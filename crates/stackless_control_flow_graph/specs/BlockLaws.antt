@@ -8,13 +8,15 @@ use native.Mathlib.Omega.{arith}
 use lib.Dec.{eqb}
 use lib.ListN.{length}
 use Rattle.stackless_bytecode.specs.declared.Bytecode.{Bytecode}
-use Rattle.base.specs.Lists.{keep, gather, has, Distinct}
-use Rattle.stackless_bytecode.specs.Kinds.{at, isExit, isFlagged, isJump, isBranch, fallsThrough, branchDests}
-use Rattle.stackless_bytecode.specs.Successors.{labelOffset, ascending, successors}
-use Rattle.stackless_control_flow_graph.specs.Blocks.{targets, starts, lowers, lowerOf, upFrom, upperOf, keyed}
+use Rattle.base.specs.Lists.{keep, any, Distinct}
+use Rattle.stackless_bytecode.specs.Kinds.{at, isExit, isFlagged, isJump, isBranch, fallsThrough, branchDests, labelOf}
+use Rattle.stackless_bytecode.specs.Labels.{lookup, isNamed, labelOffset}
+use Rattle.stackless_bytecode.specs.LookupLaws.{named-at}
+use Rattle.stackless_bytecode.specs.Successors.{ascending, successors}
+use Rattle.stackless_control_flow_graph.specs.Blocks.{starts, lowers, lowerOf, upFrom, upperOf, keyed}
 use Rattle.stackless_bytecode.specs.SuccessorLaws.{in-ascending}
 use Rattle.stackless_bytecode.specs.Sound.{Sound}
-use Rattle.base.specs.ListLaws.{or-false, by-test, by-eq, in-has, keep-in, in-keep, gather-in, in-gather, map-in, in-map, getD-in, firsts-in, in-firsts, firsts-distinct}
+use Rattle.base.specs.ListLaws.{or-false, by-test, by-eq, any-in, keep-in, in-keep, gather-in, in-gather, in-map, firsts-in, in-firsts, firsts-distinct}
 
 -- a block ends at k
 unfoldable pub Last : List Bytecode → ℕ → Type 0
@@ -40,7 +42,7 @@ quiet-falls r e =
 pub succs-mid : (code : List Bytecode) (k : ℕ) → starts code (suc k) ≡ false → successors code k ≡ suc k ∷ []
 unfolding successors starts ascending
 succs-mid code k e =
-    let quiet = or-false (isBranch (at code k)) (has (suc k) (targets code)) e .0 in
+    let quiet = or-false (isBranch (at code k)) (any (λ l. isNamed (lookup code l)) (labelOf (at code (suc k)))) e .0 in
     ap₂ (λ (ns : List ℕ) (b : Bool). ascending (map (labelOffset code) ns ++ cond b (suc k ∷ []) [])) (quiet-names (at code k) quiet) (quiet-falls (at code k) quiet)
 
 -- ---- what ends a block has starts for successors
@@ -49,11 +51,18 @@ pub record Start (code : List Bytecode) (o : ℕ) : Type 0 where
   pub inside : o < length code
   pub starts : starts code o ≡ true
 
-pub target-starts : (code : List Bytecode) (o : ℕ) → List·Memᴰ o (targets code) → starts code o ≡ true
+-- a named Label starts a block
+label-starts : (code : List Bytecode) (o l : ℕ) → List·Memᴰ l (labelOf (at code o)) → isNamed (lookup code l) ≡ true → starts code o ≡ true
 unfolding starts
-target-starts code zero i = refl
-target-starts code (suc o) i =
-    by-test (λ b. b || has (suc o) (targets code) ≡ true) (isBranch (at code o)) (λ e. refl) (λ e. in-has (suc o) (targets code) i)
+label-starts code zero l i e = refl
+label-starts code (suc o) l i e =
+    by-test (λ b. b || any (λ x. isNamed (lookup code x)) (labelOf (at code (suc o))) ≡ true) (isBranch (at code o)) (λ _. refl)
+    (λ _. any-in (λ x. isNamed (lookup code x)) (labelOf (at code (suc o))) l i e)
+
+-- so does every label that is named
+pub named-starts : (code : List Bytecode) → Sound code → (k l : ℕ) → k < length code → List·Memᴰ l (branchDests (at code k)) → starts code (labelOffset code l) ≡ true
+named-starts code sound k l h i =
+    let d = sound .named k l h i in label-starts code (labelOffset code l) l (d .label) (ap isNamed (named-at code k l h i d))
 
 pub succs-start : (code : List Bytecode) → Sound code → (k o : ℕ) → k < length code → Last code k → List·Memᴰ o (successors code k) → Start code o
 unfolding successors Last
@@ -64,8 +73,8 @@ succs-start code sound k o h last i =
     named m =
         let r = in-map (labelOffset code) (branchDests (at code k)) o m in
         subst (λ (x : ℕ). Start code x) (sym (r .2)) (record {
-          inside = sound .named k (r .0) h (r .1);
-          starts = target-starts code (labelOffset code (r .0)) (unfold targets in map-in (labelOffset code) (gather branchDests code) (gather-in branchDests code (getD-in code k _ h) (r .1)));
+          inside = sound .named k (r .0) h (r .1) .inside;
+          starts = named-starts code sound k (r .0) h (r .1);
         })
 
     next : List·Memᴰ o (cond (fallsThrough (at code k)) (suc k ∷ []) []) → Start code o

@@ -4,24 +4,21 @@ use mathlib.Core.Bool.{Bool, true, false, cond, _||_}
 use mathlib.Core.List.{List, [], _∷_, _++_, map}
 use lib.ListN.{length, take, replicate}
 use Rattle.base.specs.Sizes.{rowNumbers}
-use Rattle.base.specs.Lists.{keep, gather, has, place, firsts}
+use Rattle.base.specs.Lists.{keep, gather, any, place, firsts}
 use Rattle.base.specs.Refusals.{Reply, Done, _then_, lends, reply}
 use Rattle.stackless_bytecode.specs.declared.Bytecode.{Bytecode}
-use Rattle.stackless_bytecode.specs.Kinds.{at, isExit, isBranch, branchDests}
-use Rattle.stackless_bytecode.specs.Successors.{labelOffset, successors}
+use Rattle.stackless_bytecode.specs.Kinds.{at, isExit, isBranch, labelOf}
+use Rattle.stackless_bytecode.specs.Labels.{lookup, isNamed}
+use Rattle.stackless_bytecode.specs.Successors.{successors}
 use Rattle.sheet.specs.Layout.{codeOf}
 use Rattle.sheet.specs.Checks.{checkSheet}
 
 -- ---- blocks
 
--- the offsets of the Labels that are named, by any Branch, Jump or flagged Call
-unfoldable pub targets : List Bytecode → List ℕ
-targets code = map (labelOffset code) (gather branchDests code)
-
 -- a block starts at 0, at every named Label, and behind every Branch, Jump, exit or flagged Call
 unfoldable pub starts : List Bytecode → ℕ → Bool
 starts code zero = true
-starts code (suc k) = isBranch (at code k) || has (suc k) (targets code)
+starts code (suc k) = isBranch (at code k) || any (λ l. isNamed (lookup code l)) (labelOf (at code (suc k)))
 
 -- the lower of each block, by offset
 unfoldable pub lowers : List Bytecode → List ℕ

@@ -15,7 +15,7 @@ use Rattle.base.specs.ListLaws.{by-eq}
 use Rattle.base.specs.SearchLaws.{none-all}
 use Rattle.stackless_bytecode.specs.declared.Bytecode.{Bytecode}
 use Rattle.stackless_bytecode.specs.Kinds.{at, isBranch}
-use Rattle.stackless_bytecode.specs.Successors.{successors}
+use Rattle.stackless_bytecode.specs.Successors.{Unique, successors}
 use Rattle.stackless_bytecode.specs.Sound.{Sound}
 use Rattle.stackless_bytecode.specs.SlotLaws.{LabelsBelow}
 use Rattle.sheet.specs.Layout.{countOf, recordBlocks, recordAt, decode, instructionAt, codeOf}
@@ -62,6 +62,9 @@ module _ {s : List ℕ} {n : ℕ} {targets : List ℕ} (g : CheckedSheet s n tar
 
   pub checked-sound : Sound (codeOf s)
   checked-sound = code-sound s (g .accepted)
+
+  pub checked-once : Unique (codeOf s)
+  checked-once = accepted-valid s (g .accepted) .once
 
   pub checked-size : length (codeOf s) ≡ n
   checked-size = code-size checked-shaped

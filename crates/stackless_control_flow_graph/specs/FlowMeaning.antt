@@ -7,7 +7,8 @@ use lib.ListN.{getD, length}
 use Rattle.base.specs.Sizes.{rowNumbers}
 use Rattle.stackless_bytecode.specs.declared.Bytecode.{Bytecode}
 use Rattle.stackless_bytecode.specs.Kinds.{at, isBranch, branchDests}
-use Rattle.stackless_bytecode.specs.Successors.{labelOffset, successors}
+use Rattle.stackless_bytecode.specs.Labels.{labelOffset}
+use Rattle.stackless_bytecode.specs.Successors.{successors}
 use Rattle.stackless_control_flow_graph.specs.Blocks.{starts}
 
 -- the first three numbers of row b: the lower, the upper and the key of its block

@@ -12,15 +12,16 @@ use Rattle.base.specs.JoinLaws.{by-lt}
 use Rattle.base.specs.PartLaws.{chunk}
 use Rattle.base.specs.Refusals.{Accepted, Result, resultOf, outputAfter}
 use Rattle.stackless_bytecode.specs.declared.Bytecode.{Bytecode}
-use Rattle.stackless_bytecode.specs.Successors.{labelOffset, successors}
+use Rattle.stackless_bytecode.specs.Successors.{successors}
+use Rattle.stackless_bytecode.specs.Labels.{labelOffset}
 use Rattle.stackless_bytecode.specs.Sound.{Sound}
 use Rattle.sheet.specs.Layout.{codeOf}
 use Rattle.sheet.specs.Checks.{checkSheet}
 use Rattle.sheet.specs.CheckLaws.{code-sound}
 use Rattle.stackless_control_flow_graph.specs.Blocks.{starts, lowers, blocksOf, lowerOf, upperOf, keyed, keyOf, row, flowTable, flowReply}
-use Rattle.stackless_control_flow_graph.specs.BlockLaws.{Start, upper-le, upper-lt, upper-lower}
+use Rattle.stackless_control_flow_graph.specs.BlockLaws.{Start, named-starts, upper-le, upper-lt, upper-lower}
 use Rattle.stackless_control_flow_graph.specs.FlowLaws.{in-lowers, lowers-in, lowers-distinct}
-use Rattle.stackless_control_flow_graph.specs.GraphLaws.{blocks-cover, blocks-apart, inner-quiet, named-starts, succs-lower, keys-from, keys-to, keys-once, keys-all}
+use Rattle.stackless_control_flow_graph.specs.GraphLaws.{blocks-cover, blocks-apart, inner-quiet, succs-lower, keys-from, keys-to, keys-once, keys-all}
 use Rattle.stackless_control_flow_graph.specs.CallLaws.{row-length, flow-short, flow-done}
 use Rattle.stackless_control_flow_graph.specs.FlowMeaning.{rowLower, rowUpper, rowKey, FlowMeaning}
 
@@ -89,7 +90,7 @@ module _ (code : List Bytecode) (sound : Sound code) (z : List ℕ) where
         let inside : k < length code = omega (arith, upper-lt code (low b) (start b h .inside)) in
         inner-quiet code k inside (omega (arith, upper-lower code k inside, ap (upperOf code) e));
     named = λ k l h i. let o = labelOffset code l in
-        let m = lowers-in code o (record { inside = sound .named k l h i; starts = named-starts code k l h i }) in
+        let m = lowers-in code o (record { inside = sound .named k l h i .inside; starts = named-starts code sound k l h i }) in
         (place o (lowers code), row-inside o m, lower-is (place o (lowers code)) (row-inside o m) ∙ row-lower o m);
     reason = λ b h. ap (starts code) (lower-is b h) ∙ start b h .starts;
     goes = λ b o h i. let m = succs-lower code sound (low b) o (start b h) (subst (λ (u : ℕ). List·Memᴰ o (successors code u)) (upper-is b h) i) in

@@ -6,14 +6,15 @@ use mathlib.Core.List.{List, List·Memᴰ}
 use Prim.Native.Nat.{ℕ, zero, suc, _+_, _-_, _≤_, _<_}
 use native.Mathlib.Omega.{arith}
 use lib.ListN.{getD, length}
-use Rattle.base.specs.Lists.{gather, has, place}
-use Rattle.base.specs.ListLaws.{by-test, by-eq, map-in, gather-in, getD-in, place-lt, getD-place, place-getD}
+use Rattle.base.specs.Lists.{any, place}
+use Rattle.base.specs.ListLaws.{by-test, by-eq, getD-in, place-lt, getD-place, place-getD}
 use Rattle.stackless_bytecode.specs.declared.Bytecode.{Bytecode}
-use Rattle.stackless_bytecode.specs.Kinds.{nop, at, isBranch, branchDests}
-use Rattle.stackless_bytecode.specs.Successors.{labelOffset, successors}
+use Rattle.stackless_bytecode.specs.Kinds.{at, isBranch, labelOf}
+use Rattle.stackless_bytecode.specs.Labels.{lookup, isNamed}
+use Rattle.stackless_bytecode.specs.Successors.{successors}
 use Rattle.stackless_bytecode.specs.Sound.{Sound}
-use Rattle.stackless_control_flow_graph.specs.Blocks.{targets, starts, lowers, blocksOf, lowerOf, upperOf, keyed, keyOf}
-use Rattle.stackless_control_flow_graph.specs.BlockLaws.{Last, Start, succs-start, target-starts, upper-le, upper-lt, upper-last, upper-stop, lower-start, lower-next, lower-starts, lower-le, upper-lower, keyed-in, in-keyed, keyed-distinct}
+use Rattle.stackless_control_flow_graph.specs.Blocks.{starts, lowers, blocksOf, lowerOf, upperOf, keyed, keyOf}
+use Rattle.stackless_control_flow_graph.specs.BlockLaws.{Last, Start, succs-start, upper-le, upper-lt, upper-last, upper-stop, lower-start, lower-next, lower-starts, lower-le, upper-lower, keyed-in, in-keyed, keyed-distinct}
 use Rattle.stackless_control_flow_graph.specs.FlowLaws.{lowers-in, keys-blocks}
 
 module _ (code : List Bytecode) where
@@ -60,16 +61,10 @@ module _ (code : List Bytecode) where
   branch-last k h e = upper-stop code k h (unfold Last in by-eq (suc k) (length code) (λ q. inl q) (λ q. inr (behind)))
     where
       behind : starts code (suc k) ≡ true
-      behind = unfold starts in ap (λ (b : Bool). b || has (suc k) (targets code)) e
+      behind = unfold starts in ap (λ (b : Bool). b || any (λ l. isNamed (lookup code l)) (labelOf (at code (suc k)))) e
 
   pub inner-quiet : (k : ℕ) → k < length code → k < upperOf code k → isBranch (at code k) ≡ false
   inner-quiet k h l = by-test (λ b. isBranch (at code k) ≡ b → b ≡ false) (isBranch (at code k)) (λ e q. absurd (omega (arith, branch-last k h e))) (λ e q. refl) refl
-
-  -- ---- every label that is named starts a block
-
-  pub named-starts : (k l : ℕ) → k < length code → List·Memᴰ l (branchDests (at code k)) → starts code (labelOffset code l) ≡ true
-  named-starts k l h i =
-      target-starts code (labelOffset code l) (unfold targets in map-in (labelOffset code) (gather branchDests code) (gather-in branchDests code (getD-in code k nop h) i))
 
   module _ (sound : Sound code) where
     -- ---- the successors of a block's last instruction are lowers of blocks

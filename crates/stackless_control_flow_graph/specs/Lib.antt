@@ -24,3 +24,4 @@ pub mod LeadLaws
 pub mod SpreadLaws
 pub mod GraphTableLaws
 pub mod AlikeLaws
+pub mod TargetLaws

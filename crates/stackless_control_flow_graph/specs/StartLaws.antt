@@ -10,16 +10,18 @@ use borrow.Author.Tests.{eq-eqb, ne-eqb}
 use lib.Dec.{eqb}
 use lib.ListN.{getD, set, length, take, length-set}
 use lib.Seq.{take-nil, getD-set-same, getD-set-other}
-use Rattle.base.specs.Lists.{over, gather, has}
-use Rattle.base.specs.ListLaws.{by-test, by-eq, or-true, has-in, in-map, in-gather, in-getD}
+use Rattle.base.specs.Lists.{over, any}
+use Rattle.base.specs.ListLaws.{by-test, by-eq, or-true, in-any}
 use Rattle.stackless_bytecode.specs.declared.Bytecode.{Bytecode}
-use Rattle.stackless_bytecode.specs.Kinds.{nop, at, isExit, isFlagged, isJump, isBranch, fallsThrough, branchDests}
-use Rattle.stackless_bytecode.specs.Successors.{labelOffset, ascending, successors}
+use Rattle.stackless_bytecode.specs.Kinds.{at, isExit, isFlagged, isJump, isBranch, fallsThrough, branchDests, labelOf}
+use Rattle.stackless_bytecode.specs.Successors.{Unique, ascending, successors}
+use Rattle.stackless_bytecode.specs.Labels.{lookup, offsetOf, isNamed, labelOffset}
+use Rattle.stackless_bytecode.specs.LookupLaws.{named-by, offset-is}
 use Rattle.stackless_bytecode.specs.SuccessorLaws.{NextOffset, in-succs, succs-in}
 use Rattle.stackless_bytecode.specs.Sound.{Sound}
 use Rattle.stackless_bytecode.specs.Slots.{noLabel, slotAt, Resolved}
 use Rattle.stackless_bytecode.specs.SlotLaws.{LabelsBelow}
-use Rattle.stackless_control_flow_graph.specs.Blocks.{targets, starts}
+use Rattle.stackless_control_flow_graph.specs.Blocks.{starts}
 use Rattle.stackless_control_flow_graph.specs.BlockLaws.{Last, succs-start}
 use Rattle.stackless_control_flow_graph.specs.Arrays.{succsBy, noOffset, offsetIn, pairOf, succsIn, putTwo, markAll, Within, SuccessorsTo, Marked, Marking}
 
@@ -101,15 +103,15 @@ resolved-succs code ts k r h below =
     named : take (length (branchDests (at code k))) (getD ts (2 * k) 0 ∷ getD ts (2 * k + 1) 0 ∷ []) ≡ map (labelOffset code) (branchDests (at code k))
     named =
         unfold branchDests in names-at (labelOffset code) (eqb (at code k .kind) 4) (eqb (at code k .kind) 5 || isFlagged (at code k)) (at code k .one) (at code k .two) (getD ts (2 * k) 0) (getD ts (2 * k + 1) 0) (below .one) (below .two)
-        (λ l. r .each (2 * k) (omega arith) (subst (λ (x : ℕ). x < noLabel) (sym (slot-one code k)) l) ∙ ap (labelOffset code) (slot-one code k))
-        (λ l. r .each (2 * k + 1) (omega arith) (subst (λ (x : ℕ). x < noLabel) (sym (slot-two code k)) l) ∙ ap (labelOffset code) (slot-two code k))
+        (λ l. sym (ap offsetOf (r .each (2 * k) (omega arith) (subst (λ (x : ℕ). x < noLabel) (sym (slot-one code k)) l))) ∙ ap (labelOffset code) (slot-one code k))
+        (λ l. sym (ap offsetOf (r .each (2 * k + 1) (omega arith) (subst (λ (x : ℕ). x < noLabel) (sym (slot-two code k)) l))) ∙ ap (labelOffset code) (slot-two code k))
 
 -- they are offsets of the code
 pub succs-within : (code : List Bytecode) → Sound code → (k : ℕ) → k < length code → Within (length code) (successors code k)
 succs-within code sound k h = record { each = λ o i. go o (in-succs code k o i) }
   where
     go : (o : ℕ) → NextOffset code k o → o < length code
-    go o (NextOffset.named l i e) = omega (arith, sound .named k l h i)
+    go o (NextOffset.named l i e) = omega (arith, sound .named k l h i .inside)
     go o (NextOffset.on f e) =
         by-eq (suc k) (length code) (λ q. absurd (true≢false (sym f ∙ ap (λ (x : ℕ). fallsThrough (at code x)) (last q) ∙ sound .closed))) (λ g. omega arith)
       where
@@ -209,10 +211,10 @@ marks-more code sound k m h room e g = record {
     last = by-eq (suc k) (length code) (λ q. unfold Last in inl q) (λ q. unfold Last in inr (behind-starts))
       where
         behind-starts : starts code (suc k) ≡ true
-        behind-starts = unfold starts in ap (λ (b : Bool). b || has (suc k) (targets code)) e
+        behind-starts = unfold starts in ap (λ (b : Bool). b || any (λ l. isNamed (lookup code l)) (labelOf (at code (suc k)))) e
 
     behind : (j : ℕ) → j ≡ k + 1 → j < length code → starts code j ≡ true
-    behind j s l = ap (starts code) (s ∙ add-one k) ∙ unfold starts in ap (λ (b : Bool). b || has (suc k) (targets code)) e
+    behind j s l = ap (starts code) (s ∙ add-one k) ∙ unfold starts in ap (λ (b : Bool). b || any (λ l. isNamed (lookup code l)) (labelOf (at code (suc k)))) e
 
 -- a named label's instruction branches
 names-branch : (r : Bytecode) (l : ℕ) → List·Memᴰ l (branchDests r) → isBranch r ≡ true
@@ -229,8 +231,8 @@ names-branch r l i = go (eqb (r .kind) 4) (eqb (r .kind) 5) (isFlagged r) i
         or-end false = refl
     go false false false m = absurd (List·Memᴰ·not-nil m)
 
-pub marks-end : (code : List Bytecode) (m : List ℕ) → Marking code (length code) m → Marked code m
-marks-end code m g = record {
+pub marks-end : (code : List Bytecode) → Unique code → (m : List ℕ) → Marking code (length code) m → Marked code m
+marks-end code once m g = record {
   each = λ k h. by-test (λ b. starts code k ≡ b → eqb (getD m k 0) 1 ≡ b) (starts code k)
       (λ e q. eq-eqb (getD m k 0) 1 (on k h e)) (λ e q. ne-eqb (getD m k 0) 1 (λ s. true≢false (sym (g .sound k h s) ∙ e))) refl;
 }
@@ -238,13 +240,12 @@ marks-end code m g = record {
     on : (k : ℕ) → k < length code → starts code k ≡ true → getD m k 0 ≡ 1
     on zero h e = g .entry
     on (suc k) h e =
-        ⊎-elim (λ b. g .behind k (omega arith) h b) (λ t. target (has-in (suc k) (targets code) t))
-        (or-true (isBranch (at code k)) (has (suc k) (targets code)) (unfold starts in e))
+        ⊎-elim (λ b. g .behind k (omega arith) h b) (λ t. label (in-any (λ l. isNamed (lookup code l)) (labelOf (at code (suc k))) t))
+        (or-true (isBranch (at code k)) (any (λ l. isNamed (lookup code l)) (labelOf (at code (suc k)))) (unfold starts in e))
       where
-        target : List·Memᴰ (suc k) (targets code) → getD m (suc k) 0 ≡ 1
-        target i =
-            let r = in-map (labelOffset code) (gather branchDests code) (suc k) (unfold targets in i) in
-            let w = in-gather branchDests code (r .0) (r .1) in
-            let p = in-getD code (w .0) nop (w .1) in
-            let named : List·Memᴰ (r .0) (branchDests (at code (p .0))) = subst (λ (x : Bytecode). List·Memᴰ (r .0) (branchDests x)) (sym (p .2)) (w .2) in
-            g .named (p .0) (suc k) (p .1) (names-branch (at code (p .0)) (r .0) named) (succs-in code (p .0) (suc k) (NextOffset.named (r .0) named (r .2)))
+        -- its Label is named: it is where that instruction goes
+        label : (l : ℕ) × List·Memᴰ l (labelOf (at code (suc k))) × (isNamed (lookup code l) ≡ true) → getD m (suc k) 0 ≡ 1
+        label (l, i, t) =
+            let by = named-by code l t in
+            g .named (by .0) (suc k) (by .1) (names-branch (at code (by .0)) l (by .2))
+            (succs-in code (by .0) (suc k) (NextOffset.named l (by .2) (sym (offset-is code once (suc k) l h i))))

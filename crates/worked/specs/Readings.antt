@@ -11,6 +11,8 @@ use Rattle.base.specs.Bytes.{bytesOf}
 use Rattle.base.specs.Refusals.{Accepted, Refused, No, Done}
 use Rattle.stackless_bytecode.specs.declared.Bytecode.{Bytecode}
 use Rattle.stackless_bytecode.specs.Kinds.{at, Stop, Destroy, IsParent, WriteBack}
+use Rattle.stackless_bytecode.specs.declared.Lookup.the-variants.{Named, Unnamed, Undefined}
+use Rattle.stackless_bytecode.specs.Labels.{lookup}
 use Rattle.stackless_bytecode.specs.Successors.{successors}
 use Rattle.dataflow_domains.specs.Mask.{unions}
 use Rattle.sheet.specs.Layout.{countOf, blockOf, sheetOf}
@@ -18,10 +20,11 @@ use Rattle.sheet.specs.Checks.{headingOk, checkSheet}
 use Rattle.stackless_control_flow_graph.specs.Blocks.{flowTable, flowReply}
 use Rattle.livevar_analysis.specs.Live.{execute, Obeys}
 use Rattle.livevar_analysis.specs.Analysis.{analyze, liveReply}
+use Rattle.label.specs.LabelCall.{labelReply}
 use Rattle.eliminate_unused_vars.specs.Renumber.{renumberReply}
 use Rattle.livevar_transform.specs.Rewrite.{transformCode, rewriteReply}
 use Rattle.borrow_analysis.specs.Borrows.{inUseReply, conditionalReply, dyingReply}
-use Rattle.worked.specs.Samples.{headingOf, plain, flagged, m1, assign, call, ret, load, branch, jump, label, abort, Not, ReadRef}
+use Rattle.worked.specs.Samples.{headingOf, plain, flagged, m1, m2Unnamed, assign, call, ret, load, branch, jump, label, abort, Not, ReadRef}
 use Rattle.worked.specs.Worked.{sets}
 use Rattle.worked.specs.Opened.{opened}
 
@@ -203,6 +206,49 @@ readings = record {
   in-use-on-a-cycle = refl;
   unused-on-a-cycle = refl;
   not-child-first = refl;
+}
+
+-- ---- labels
+
+pub record LabelReadings : Type 0 where
+  -- named before its Label alone, and behind it alone
+  pub named-before : lookup (jump 0 1 ∷ label 0 1 ∷ ret 0 [] ∷ []) 1 ≡ Named 1
+  pub named-behind : lookup (label 0 1 ∷ jump 0 1 ∷ []) 1 ≡ Named 0
+  -- by the else of a Branch, by a flagged Call, and by code that no path reaches
+  pub by-else : lookup (branch 0 1 2 0 ∷ label 0 1 ∷ label 0 2 ∷ ret 0 [] ∷ []) 2 ≡ Named 2
+  pub by-abort : lookup (flagged (call 0 Not [] []) 1 0 ∷ label 0 1 ∷ ret 0 [] ∷ []) 1 ≡ Named 1
+  pub by-unreached : lookup (label 0 1 ∷ ret 0 [] ∷ jump 0 1 ∷ []) 1 ≡ Named 0
+  -- its own Label names nothing, nor do the zeros in the label fields of other kinds
+  pub own-label : lookup (label 0 5 ∷ ret 0 [] ∷ []) 5 ≡ Unnamed 0
+  pub zeros-name-nothing : lookup (call 0 Not [] [] ∷ label 0 0 ∷ jump 0 5 ∷ label 0 5 ∷ ret 0 [] ∷ []) 0 ≡ Unnamed 1
+  pub undefined : lookup (label 0 5 ∷ ret 0 [] ∷ []) 4 ≡ Undefined
+  -- in one number: M2 with a Label 5 that nobody names
+  pub value-named : labelReply m2Unnamed 2 ≡ Done (65536 + 3) []
+  pub value-unnamed : labelReply m2Unnamed 5 ≡ Done (2 * 65536 + 1) []
+  pub value-undefined : labelReply m2Unnamed 9 ≡ Done (3 * 65536) []
+  -- above 65,535 all are undefined: 65,537 is not label 1
+  pub value-high : labelReply m2Unnamed 65537 ≡ Done (3 * 65536) []
+  -- and Label 5 starts no block
+  pub no-block : flowReply m2Unnamed 12 ≡ Done 2 (0 ∷ 2 ∷ 2 ∷ 2 ∷ 3 ∷ 0 ∷ 3 ∷ 4 ∷ 3 ∷ 1 ∷ 0 ∷ 0 ∷ [])
+  pub label-refused-7 : labelReply (sheetWith 1 (label 0 1 ∷ jump 0 9 ∷ [])) 9 ≡ No 7 1
+
+pub label-readings : LabelReadings
+unfolding sheetWith opened
+label-readings = record {
+  named-before = refl;
+  named-behind = refl;
+  by-else = refl;
+  by-abort = refl;
+  by-unreached = refl;
+  own-label = refl;
+  zeros-name-nothing = refl;
+  undefined = refl;
+  value-named = refl;
+  value-unnamed = refl;
+  value-undefined = refl;
+  value-high = refl;
+  no-block = refl;
+  label-refused-7 = refl;
 }
 
 -- sets that hold local 0 everywhere obey the rules of an endless loop that never uses it

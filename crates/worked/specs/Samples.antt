@@ -88,6 +88,10 @@ m1 = sheetOf (headingOf 1 1 0) (ret 0 (0 ∷ []) ∷ [])
 unfoldable pub m2 : List ℕ
 m2 = sheetOf (headingOf 2 2 0) (label 0 1 ∷ branch 0 1 2 0 ∷ label 0 2 ∷ ret 0 (1 ∷ []) ∷ [])
 
+-- M2 with a Label that nobody names
+unfoldable pub m2Unnamed : List ℕ
+m2Unnamed = sheetOf (headingOf 2 2 0) (label 0 1 ∷ label 0 5 ∷ branch 0 1 2 0 ∷ label 0 2 ∷ ret 0 (1 ∷ []) ∷ [])
+
 unfoldable pub m3 : List ℕ
 m3 = sheetOf (headingOf 2 0 0) (flagged (call 0 Not (1 ∷ []) (0 ∷ [])) 1 0 ∷ ret 0 (1 ∷ []) ∷ label 0 1 ∷ abort 0 0 ∷ [])
 

@@ -1,4 +1,4 @@
--- `page::sections::put_flow_section` meets its contract: with room for the most blocks, the table is there. Assumes nothing.
+-- `page::sections::put_flow_section` meets its contract: with room for the most blocks, the table is there; the unnamed Labels stand behind it. Assumes nothing.
 use borrow.Author.Needs.{needs}
 use mathlib.Core.Path.{_≡_}
 use mathlib.Core.List.{List}
@@ -24,9 +24,9 @@ put-blocks-requires c κs =
 
 returns : tie.Need-returns
 returns c =
-    let t = c .before .before .before .before .before .before .before .before .before .before .before .table-of .ensures in
-    let text = flow-written (c .before .before .before .before .before .before .before .before .before .before .before .before .before .before .before .before .pre) blank blank-long _ _ (t .0) (t .1) .text in
-    wrote-then (c .before .before .before .before .before .before .before .put-bytes .ensures) (wrote-as text (c .before .before .put-blocks .ensures))
+    let t = c .before .before .before .before .before .before .before .before .before .before .before .before .before .before .before .table-of .ensures in
+    let text = flow-written (c .before .before .before .before .before .before .before .before .before .before .before .before .before .before .before .before .before .before .before .before .pre) blank blank-long _ _ (t .0) (t .1) .text in
+    wrote-then (wrote-then (c .before .before .before .before .before .before .before .before .before .before .before .put-bytes .ensures) (wrote-as text (c .before .before .before .before .before .before .put-blocks .ensures))) (c .before .before .put-unnamed .ensures)
 
 pub put-flow-section-spec : {M : Type 1} → statement M
 put-flow-section-spec =
@@ -38,5 +38,6 @@ put-flow-section-spec =
     (λ c κs. search needs)
     (λ c. search needs)
     put-blocks-requires
+    (λ c κs. search needs)
     (λ c. search needs)
     returns)

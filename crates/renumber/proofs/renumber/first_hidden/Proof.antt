@@ -3,11 +3,10 @@ use mathlib.Core.Path.{_≡_, sym, ap, _∙_}
 use mathlib.Core.Bool.{not}
 use Prim.Native.Nat.{_-_}
 use Rattle.base.specs.Lists.{firstBad}
-use Rattle.base.specs.SearchLaws.{bad-more, bad-stop, bad-end}
+use Rattle.base.specs.SearchLaws.{bad-start, bad-more, bad-stop, bad-end}
 use Rattle.base.specs.Refusals.{foundOf}
 use Rattle.stackless_bytecode.specs.Kinds.{at}
 use Rattle.sheet.specs.Layout.{codeOf}
-use Rattle.sheet_checks.specs.LocalLaws.{bad-start}
 use Rattle.livevar_analysis.specs.InputLaws.{code-at, record-inside}
 use Rattle.eliminate_unused_vars.specs.Renumber.{hidesLocal}
 use borrow.Author.Needs.{needs}

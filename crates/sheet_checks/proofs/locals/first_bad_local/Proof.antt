@@ -3,12 +3,11 @@ use mathlib.Core.Path.{_≡_, sym, ap, _∙_}
 use Prim.Native.Nat.{_-_}
 use borrow.Author.Tests.{not-true, not-false}
 use Rattle.base.specs.Lists.{firstBad}
-use Rattle.base.specs.SearchLaws.{bad-more, bad-stop, bad-end}
+use Rattle.base.specs.SearchLaws.{bad-start, bad-more, bad-stop, bad-end}
 use Rattle.stackless_bytecode.specs.Kinds.{at}
 use Rattle.sheet.specs.Layout.{codeOf}
 use Rattle.base.specs.Refusals.{foundOf}
 use Rattle.sheet.specs.Checks.{localsOk}
-use Rattle.sheet_checks.specs.LocalLaws.{bad-start}
 use Rattle.sheet.specs.Shaped.{record-inside, lists-fit, code-at}
 use borrow.Author.Needs.{needs}
 use Rattle.sheet_checks.proofs.locals.first_bad_local.Statement.{statement}

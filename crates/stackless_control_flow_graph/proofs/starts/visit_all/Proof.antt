@@ -3,7 +3,7 @@ use mathlib.Core.Path.{_≡_, refl, _∙_}
 use Prim.Native.Nat.{_≤_, _-_}
 use lib.ListN.{length, length-set}
 use Rattle.sheet.specs.Layout.{codeOf}
-use Rattle.stackless_control_flow_graph.specs.CheckedSheetLaws.{checked-size, marks-begin}
+use Rattle.stackless_control_flow_graph.specs.CheckedSheetLaws.{checked-once, checked-size, marks-begin}
 use Rattle.stackless_control_flow_graph.specs.StartLaws.{marks-end}
 use Rattle.stackless_control_flow_graph.specs.Arrays.{SuccessorsTo, Marking}
 use borrow.Author.Needs.{needs}
@@ -44,7 +44,7 @@ returns c =
     let c6 = c .before .before .before .before .before .before in
     let n : c .before .loop .k ≡ c6 .args .n = omega arith in
     let size = checked-size (c6 .pre .0) in
-    (rw (← n) (c .before .loop .inv .3), marks-end _ _ (rw (size, ← n) (c .before .loop .inv .4)))
+    (rw (← n) (c .before .loop .inv .3), marks-end _ (checked-once (c6 .pre .0)) _ (rw (size, ← n) (c .before .loop .inv .4)))
 
 pub visit-all-spec : {M : Type 1} → statement M
 visit-all-spec =

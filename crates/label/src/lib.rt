@@ -1,0 +1,2 @@
+// What a label is in an accepted sheet. Assumes nothing.
+pub mod label; // label.rt: the call label
