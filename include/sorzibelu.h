@@ -13,7 +13,7 @@
  * Stack. The calls allocate nothing and keep nothing between calls, so that threads may call them at the same time; their arrays are on the stack.
  * A thread of SORZIBELU_STACK_BYTES is enough for every call but sorzibelu_page, which needs SORZIBELU_PAGE_STACK_BYTES:
  *
- *     check 16.1 KiB   flow 17.3 KiB   live 189.5 KiB   rewrite 205.6 KiB   renumber 45.3 KiB   livelist 205.6 KiB   page 240.6 KiB
+ *     check 16.1 KiB   flow 17.3 KiB   live 189.5 KiB   rewrite 205.6 KiB   renumber 45.3 KiB   label 16.2 KiB   livelist 205.6 KiB   page 241.6 KiB
  *     dying 9.3 KiB   in_use, conditional below 1 KiB
  */
 #ifndef SORZIBELU_H
@@ -56,7 +56,7 @@ enum {
 #define SORZIBELU_LIVE_BYTES (16 * SORZIBELU_MAX_INSTRUCTIONS)
 #define SORZIBELU_MAX_NODES 64
 #define SORZIBELU_MAX_TRIPLES 256
-#define SORZIBELU_PAGE_BYTES 972450
+#define SORZIBELU_PAGE_BYTES 979630
 #define SORZIBELU_LIVELIST_BYTES 39953
 #define SORZIBELU_STACK_BYTES 262144
 #define SORZIBELU_PAGE_STACK_BYTES 524288
@@ -88,6 +88,22 @@ uint64_t sorzibelu_rewrite(const uint8_t *sheet, size_t sheet_len, uint8_t *out,
  * where out_len is below sheet_len; SORZIBELU_MAX_SHEET_BYTES are always enough.
  */
 uint64_t sorzibelu_renumber(const uint8_t *sheet, size_t sheet_len, uint8_t *out, size_t out_len);
+
+/*
+ * The lookup of a label; it may be any number. Value: 65,536 * way + offset, the offset that of the Label, 0 where the label is undefined. SORZIBELU_WAY and
+ * SORZIBELU_OFFSET take the two apart. Refused as sorzibelu_check refuses.
+ */
+uint64_t sorzibelu_label(const uint8_t *sheet, size_t sheet_len, uint32_t label);
+
+#define SORZIBELU_WAY(value) ((value) >> 16)
+#define SORZIBELU_OFFSET(value) ((value) & 65535)
+
+/* The ways. */
+enum {
+    SORZIBELU_NAMED = 1,           /* a Label has the number, and a Branch, Jump or flagged Call names it, reached or not */
+    SORZIBELU_UNNAMED = 2,         /* a Label has the number, and nothing names it */
+    SORZIBELU_UNDEFINED = 3        /* no Label has the number; so is every one above 65,535 */
+};
 
 /*
  * The page of a sheet, as the program answerbook prints it. Value: its length in bytes. The text at the front of `out`, without a 0 behind it. A refused

@@ -1,4 +1,4 @@
-//! What the live variable analysis says of a sheet: flow, live, rewrite and renumber (E1).
+//! What the live variable analysis says of a sheet, and what it stands on: flow, live, rewrite, renumber (E1) and labels (E2).
 use crate::{
     answer::{no, Answer},
     bytes::{mask, p16, p32, set_bit, set_u16, width},
@@ -6,12 +6,13 @@ use crate::{
     livevar_analysis::oracle_access as livevar,
     record::{call_op, record},
     sheet::{assemble, Sheet, RECORD},
-    stackless_bytecode::Bytecode,
+    stackless_bytecode::{Bytecode, Label},
     stackless_control_flow_graph::{BlockContent, StacklessControlFlowGraph},
     taken, taken_reset,
     target::{data, function},
 };
 use move_model::model::GlobalEnv;
+use std::collections::BTreeSet;
 
 pub fn flow(sheet: &Sheet) -> Answer {
     let cfg = StacklessControlFlowGraph::new_forward(&sheet.code(false));
@@ -134,4 +135,17 @@ pub fn eliminate(sheet: &Sheet) -> Answer {
         }
     }
     Ok(assemble(heading, &records))
+}
+
+/// Where each Label stands by `label_offsets`, and whether it is among the `branch_dests` of an instruction.
+pub fn labels(sheet: &Sheet) -> Answer {
+    let code = sheet.code(false);
+    let named: BTreeSet<Label> = code.iter().flat_map(|b| b.branch_dests()).collect();
+    let mut out = vec![];
+    for (label, offset) in Bytecode::label_offsets(&code) {
+        p16(&mut out, label.as_usize() as u16);
+        p16(&mut out, offset);
+        out.push(named.contains(&label) as u8);
+    }
+    Ok(out)
 }

@@ -139,6 +139,12 @@ pub fn print_answer(op: u8, b: &[u8], out: &[u8]) {
             };
             print_rows(first, &d[9..], w);
         }
+        11 => {
+            for row in d.chunks(5) {
+                let named = if row[4] == 1 { "named" } else { "never named" };
+                println!("{} {} {}", u16_at(row, 0), u16_at(row, 2), named);
+            }
+        }
         9 | 19 => {
             println!("{} entries {}", borrow_numbers(d), g32(d, 9));
             for row in d[13..].chunks(76) {

@@ -19,6 +19,7 @@ pub fn calls() -> Vec<(&'static str, Call)> {
         ("live", |i| discard(live(&i.sheet, &mut vec![0; LIVE_BYTES]))),
         ("rewrite", |i| discard(rewrite(&i.sheet, &mut vec![0; MAX_SHEET_BYTES]))),
         ("renumber", |i| discard(renumber(&i.sheet, &mut vec![0; MAX_SHEET_BYTES]))),
+        ("label", |i| discard(label(&i.sheet, 1))),
         ("livelist", |i| discard(livelist(&i.sheet, &mut vec![0; LIVELIST_BYTES]))),
         ("page", |i| discard(page(&i.sheet, &mut vec![0; PAGE_BYTES]))),
         ("in_use", |i| discard(in_use(i.this.graph(), 0))),

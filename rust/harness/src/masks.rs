@@ -2,12 +2,14 @@
 //! that is cleared in each call. It allocates nothing: fixed arrays, every record decoded once. Not proved; held to the proved calls on random sheets below.
 mod checks;
 mod flow;
+mod label;
 mod live;
 mod renumber;
 mod rewrite;
 
 pub use checks::check;
 pub use flow::flow;
+pub use label::label;
 pub use live::{live, live_with_table};
 pub use renumber::renumber;
 pub use rewrite::rewrite;
@@ -63,8 +65,8 @@ fn falls(r: &[u8; RECORD]) -> bool {
 
 #[cfg(test)]
 mod tests {
-    use crate::{random, random::Rng, Bytes};
-    use sorzibelu::{check, flow, live, renumber, rewrite};
+    use crate::{plain, random, random::Rng, Bytes};
+    use sorzibelu::{check, flow, label, live, renumber, rewrite};
 
     #[test]
     fn answers_are_the_proved_ones() {
@@ -111,5 +113,25 @@ mod tests {
             assert_eq!(a, b);
         }
         assert!(met[0] > 1000 && met[9] > 100 && met[15] > 100, "{met:?}");
+    }
+
+    #[test]
+    fn looked_up_as_the_proved_call_does() {
+        let mut rng = Rng::new(14);
+        let mut met = [0; 4];
+        for turn in 0..4000 {
+            let shape = random::shape(&mut rng);
+            let sheet = random::sheet(&mut rng, shape);
+            let labels = plain::labels(&sheet.code);
+            let asked = match labels.len() {
+                0 => rng.number() as u32,
+                many => labels[rng.below(many)] + if rng.chance(8) { 65_536 } else { 0 },
+            };
+            let s = if turn % 4 == 3 { random::damage(&mut rng, &sheet.bytes()) } else { sheet.bytes() };
+            let proved = label(&s, asked).map(plain::packed).map_err(|f| (f.number(), f.place()));
+            met[proved.map_or(0, |value| value as usize >> 16)] += 1;
+            assert_eq!(proved, super::label(&s, asked));
+        }
+        assert!(met.iter().all(|m| *m > 300), "{met:?}");
     }
 }

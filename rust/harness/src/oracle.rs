@@ -1,6 +1,7 @@
 //! Questions to the original Rust behind oracle/, over its standard input and output.
-use sorzibelu::Graph;
+use sorzibelu::{Graph, Lookup};
 use std::{
+    collections::BTreeMap,
     io::{BufReader, BufWriter, Read, Result, Write},
     process::{Child, Command, Stdio},
     thread,
@@ -14,6 +15,8 @@ pub const CONDITIONAL: u8 = 5;
 pub const DYING: u8 = 6;
 /// Renumbering, after the name of its function.
 pub const ELIMINATE: u8 = 7;
+/// Where each Label stands, and whether it is named.
+pub const LABELS: u8 = 11;
 
 pub fn start(path: &str) -> Result<Child> {
     Command::new(path).stdin(Stdio::piped()).stdout(Stdio::piped()).spawn()
@@ -67,4 +70,13 @@ pub fn payload(g: Graph) -> Vec<u8> {
     b.extend((g.triples.len() as u32 / 3).to_le_bytes());
     b.extend(g.triples.iter().flat_map(|x| x.to_le_bytes()));
     b
+}
+
+/// The labels of an answer to LABELS; every other number is undefined.
+pub fn labels(data: &[u8]) -> BTreeMap<u32, Lookup> {
+    let found = |r: &[u8]| {
+        let [label, at] = [0, 2].map(|i| u16::from_le_bytes([r[i], r[i + 1]]));
+        (label.into(), if r[4] == 1 { Lookup::Named(at) } else { Lookup::Unnamed(at) })
+    };
+    data.chunks_exact(5).map(found).collect()
 }

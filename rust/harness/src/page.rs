@@ -28,7 +28,12 @@ pub fn page(bytes: &[u8]) -> String {
         row[3..].iter().filter(|k| **k != 0).for_each(|k| write!(s, " {k}").unwrap());
         s.push('\n');
     }
-    writeln!(s, "blocks {}\n\nlive", table.len() / 6).unwrap();
+    writeln!(s, "blocks {}", table.len() / 6).unwrap();
+    let labels = plain::never_named(&sheet.code);
+    if !labels.is_empty() {
+        writeln!(s, "never named{}", labels.iter().map(|l| format!(" L{l}")).collect::<String>()).unwrap();
+    }
+    s.push_str("\nlive\n");
     let (sets, taken) = plain::live(&sheet.code);
     for (k, (before, after)) in sets.iter().enumerate() {
         writeln!(s, "{k}: before {}, after {}", set(*before), set(*after)).unwrap();

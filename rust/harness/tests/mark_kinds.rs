@@ -78,6 +78,28 @@ fn words_of_flow_marks() {
     }
 }
 
+/// The labels that nothing names may stand in an answer, and are wrong where they are others.
+#[test]
+fn labels_in_flow_marks() {
+    for (sheet, line, says) in [
+        ("unnamed", "", &[][..]),
+        ("unnamed", "never named L5", &[]),
+        ("unnamed", "Never named: l5,", &[]),
+        ("unnamed", "never named", &["line 5: never named: L5 should stand here"]),
+        ("unnamed", "never named L5 L1", &["line 5: never named: L5 should stand here"]),
+        ("unnamed", "never named 5", &["line 5: '5' is no label such as L1"]),
+        ("unnamed", "never named L65541", &["line 5: 'L65541' is no label such as L1"]),
+        ("unnamed", "never named L5\nnever named L1", &["line 6: the labels that nothing names were answered in line 5, which counts"]),
+        ("m2", "never named L2", &["line 5: never named: no label should stand here"]),
+        ("m2", "never named", &[]),
+    ] {
+        let rows = if sheet == "m2" { "0 1 2 2 3\n2 3 3 1\nblocks 2" } else { "0 2 2 2 3\n3 4 3 1\nblocks 2" };
+        let report = mark(&question(sheet), &format!("flow\n{rows}\n{line}"));
+        assert_eq!(said(&report), says, "{line}");
+        assert_eq!((report.all_right(), report.right), (says.is_empty(), 3));
+    }
+}
+
 #[test]
 fn words_of_rewritten_marks() {
     let m6 = question("m6");

@@ -32,7 +32,7 @@ fn compare(s: &[u8], more: usize) {
 #[test]
 fn stored_sheets() {
     let dir = concat!(env!("CARGO_MANIFEST_DIR"), "/../../sheets/");
-    for m in ["m1", "m2", "m3", "m4", "m5", "m6", "kind12"] {
+    for m in ["m1", "m2", "m3", "m4", "m5", "m6", "unnamed", "kind12"] {
         let s = fs::read(format!("{dir}{m}.sheet")).unwrap();
         assert_eq!(written(proved_page, &s, PAGE_BYTES).unwrap(), fs::read_to_string(format!("{dir}{m}.page")).unwrap(), "{m}");
         compare(&s, 0);
@@ -69,6 +69,10 @@ fn the_longest_page() {
     let all: Vec<Instruction> = (0..8).map(|k| uses(8 * k)).collect();
     let code = [vec![Instruction::new(NOP); 1_015], all, vec![Instruction::new(RET)]].concat();
     compare(&Sheet { code, ..sheet }.bytes(), 0);
+    // and nothing names any of the most Labels
+    let labels = (0..1_023).map(|k| Instruction { one: 65_535 - k, attr: 65_535, ..Instruction::new(LABEL) });
+    let code = labels.chain([Instruction::new(RET)]).collect();
+    compare(&Sheet { locals: 64, code, ..Default::default() }.bytes(), 0);
 }
 
 #[test]

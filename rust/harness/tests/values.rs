@@ -1,5 +1,5 @@
 //! Answers as values beside the lent ones, conversions in place of panics, and refusals in words, on random sheets and graphs.
-use harness::{graphs, random, random::Rng, Bytes};
+use harness::{graphs, plain, random, random::Rng, Bytes};
 use sorzibelu::{graph, sheet::*, *};
 
 #[test]
@@ -28,6 +28,7 @@ fn values_are_what_was_lent() {
         let mut out = vec![0; MAX_SHEET_BYTES];
         assert_eq!(rewritten(&s), rewrite(&s, &mut out).map(|n| out[..n as usize].to_vec()));
         assert_eq!(renumbered(&s), renumber(&s, &mut out).map(|n| out[..n as usize].to_vec()));
+        assert_eq!(never_named(&s), check(&s).map(|()| plain::never_named(&Sheet::of_bytes(&s).code)));
         assert_eq!(Sheet::try_from(&s[..]).map(|sheet| sheet.bytes()), check(&s).map(|()| s.clone()));
         let (a, b) = graphs::pair(&mut rng, i % 2 == 0);
         let mut out = [0; MAX_NODES];

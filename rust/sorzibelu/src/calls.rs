@@ -90,6 +90,39 @@ pub fn renumber(sheet: &[u8], out: &mut [u8]) -> Result<u32, Refusal> {
     lent(sheet, out, ffi::sorzibelu_renumber)
 }
 
+/// What a label number is in a sheet.
+#[derive(Clone, Copy, Debug, PartialEq, Eq, Hash)]
+pub enum Lookup {
+    /// A Label has it, at this offset, and a Branch, a Jump or a flagged Call names it, reached or not.
+    Named(u16),
+    /// A Label has it, at this offset, and nothing names it: it starts no block by itself.
+    Unnamed(u16),
+    /// No Label has it, as none has a number above 65,535.
+    Undefined,
+}
+
+/// The lookup of a label: of any number, in a sheet that checks 1 to 8 accept.
+///
+/// ```
+/// use sorzibelu::{label, Lookup, Refusal};
+/// let m2 = sorzibelu::text::assemble("locals 1 user 1 parameters 1 references\nlabel L1\nlabel L5\nbranch L1 L2 on t0\nlabel L2\nret\n")?;
+/// let m2 = Vec::try_from(&m2)?;
+/// assert_eq!(label(&m2, 1), Ok(Lookup::Named(0)));
+/// assert_eq!(label(&m2, 5), Ok(Lookup::Unnamed(1)));
+/// assert_eq!(label(&m2, 65_536 + 1), Ok(Lookup::Undefined));
+/// assert_eq!(label(&[], 1), Err(Refusal::Length));
+/// # Ok::<(), Box<dyn std::error::Error>>(())
+/// ```
+pub fn label(sheet: &[u8], label: u32) -> Result<Lookup, Refusal> {
+    // SAFETY: the call reads `len` bytes from the pointer, and nothing else.
+    let value = unpack(unsafe { ffi::sorzibelu_label(sheet.as_ptr(), sheet.len(), label) })?;
+    Ok(match value >> 16 {
+        1 => Lookup::Named(value as u16),
+        2 => Lookup::Unnamed(value as u16),
+        _ => Lookup::Undefined,
+    })
+}
+
 /// The page of any bytes: how long it is, and it at the front of `out`, which is lent [`PAGE_BYTES`](crate::PAGE_BYTES) or more. A refused
 /// sheet's page is the line `refused NUMBER PLACE`; only [`ShortOutput`](Refusal::ShortOutput) is an error. The call needs
 /// [`PAGE_STACK_BYTES`](crate::PAGE_STACK_BYTES) of stack.

@@ -6,6 +6,7 @@ unsafe extern "C" {
     pub fn sorzibelu_live(sheet: *const u8, len: usize, sets: *mut u8, room: usize) -> u64;
     pub fn sorzibelu_rewrite(sheet: *const u8, len: usize, out: *mut u8, room: usize) -> u64;
     pub fn sorzibelu_renumber(sheet: *const u8, len: usize, out: *mut u8, room: usize) -> u64;
+    pub fn sorzibelu_label(sheet: *const u8, len: usize, label: u32) -> u64;
     pub fn sorzibelu_page(sheet: *const u8, len: usize, out: *mut u8, room: usize) -> u64;
     pub fn sorzibelu_livelist(sheet: *const u8, len: usize, out: *mut u8, room: usize) -> u64;
     pub fn sorzibelu_in_use(nodes: u32, live: u64, triples: *const u32, len: usize, node: u32) -> u64;

@@ -10,6 +10,7 @@
 //! | its live sets, and blocks taken | [`live`] | [`live_sets`] |
 //! | its rewriting | [`rewrite`] | [`rewritten`] |
 //! | it with its locals renumbered | [`renumber`] | [`renumbered`] |
+//! | is a label named, only defined, or undefined? | | [`label`], [`never_named`] |
 //! | its page, as text | [`page`] | [`page_text`] |
 //! | its live sets, as text | [`livelist`] | [`livelist_text`] |
 //! | is a node in use, is it conditional? | | [`in_use`], [`conditional`] |
@@ -23,9 +24,9 @@
 //! The calls allocate nothing: their arrays are on the stack. A thread of [`STACK_BYTES`] is enough for every call but [`page`], and one of
 //! [`PAGE_STACK_BYTES`] for that; the main thread and the threads of `std` have more.
 //!
-//! | check | flow | live | rewrite | renumber | livelist | page | dying | in use, conditional |
-//! |---|---|---|---|---|---|---|---|---|
-//! | 16.1 KiB | 17.3 KiB | 189.5 KiB | 205.6 KiB | 45.3 KiB | 205.6 KiB | 240.6 KiB | 9.3 KiB | below 1 KiB |
+//! | check | flow | live | rewrite | renumber | label | livelist | page | dying | in use, conditional |
+//! |---|---|---|---|---|---|---|---|---|---|
+//! | 16.1 KiB | 17.3 KiB | 189.5 KiB | 205.6 KiB | 45.3 KiB | 16.2 KiB | 205.6 KiB | 241.6 KiB | 9.3 KiB | below 1 KiB |
 #![warn(missing_docs)]
 mod calls;
 mod ffi;

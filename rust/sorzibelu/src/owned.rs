@@ -1,5 +1,9 @@
 //! The same answers as values: each makes what the call lends, and takes the answer out of it.
-use crate::{calls, Graph, Refusal, BYTES_PER_INSTRUCTION, FLOW_NUMBERS, LIVE_BYTES, MAX_NODES, MAX_SHEET_BYTES, NUMBERS_PER_BLOCK};
+use crate::{
+    calls,
+    sheet::{Sheet, LABEL},
+    Graph, Lookup, Refusal, BYTES_PER_INSTRUCTION, FLOW_NUMBERS, LIVE_BYTES, MAX_NODES, MAX_SHEET_BYTES, NUMBERS_PER_BLOCK,
+};
 
 /// One row of the flow table.
 #[derive(Clone, Copy, Debug, PartialEq, Eq, Hash)]
@@ -104,6 +108,23 @@ pub fn renumbered(sheet: &[u8]) -> Result<Vec<u8>, Refusal> {
     let length = calls::renumber(sheet, &mut out)?;
     out.truncate(length as usize);
     Ok(out)
+}
+
+/// The labels that no Branch, Jump or flagged Call names, by the offsets of their Labels: [`label`](crate::label) asked of each.
+///
+/// ```
+/// let m2 = sorzibelu::text::assemble("locals 1 user 1 parameters 1 references\nlabel L1\nlabel L5\nbranch L1 L2 on t0\nlabel L2\nret\n")?;
+/// assert_eq!(sorzibelu::never_named(&Vec::try_from(&m2)?), Ok(vec![5]));
+/// # Ok::<(), Box<dyn std::error::Error>>(())
+/// ```
+pub fn never_named(sheet: &[u8]) -> Result<Vec<u16>, Refusal> {
+    let mut all = vec![];
+    for r in Sheet::try_from(sheet)?.code.iter().filter(|r| r.kind == LABEL) {
+        if let Lookup::Unnamed(_) = calls::label(sheet, r.one.into())? {
+            all.push(r.one);
+        }
+    }
+    Ok(all)
 }
 
 /// A text that a call writes at the front of so many bytes, which are enough for every one.

@@ -76,6 +76,24 @@ impl Instruction {
     pub fn new(kind: u8) -> Instruction {
         Instruction { kind, ..Default::default() }
     }
+
+    /// The labels that it names: then and else of a Branch, that of a Jump, that of a Call's abort action.
+    ///
+    /// ```
+    /// use sorzibelu::sheet::*;
+    /// let branch = Instruction { one: 7, two: 8, srcs: vec![0], ..Instruction::new(BRANCH) };
+    /// assert!(branch.names().eq([7, 8]));
+    /// assert_eq!(Instruction::new(CALL).names().next(), None);
+    /// ```
+    pub fn names(&self) -> impl Iterator<Item = u16> + use<> {
+        let count = match self.kind {
+            BRANCH => 2,
+            JUMP => 1,
+            CALL => usize::from(self.abort.is_some()),
+            _ => 0,
+        };
+        [self.one, self.two].into_iter().take(count)
+    }
 }
 
 /// More than a sheet has room for: destinations or sources above 8, or instructions above 1,024.

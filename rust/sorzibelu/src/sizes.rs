@@ -23,7 +23,7 @@ pub const MAX_NODES: usize = 64;
 /// The most triples of a borrow graph.
 pub const MAX_TRIPLES: usize = 256;
 /// What [`page`](crate::page) is lent: no page is longer.
-pub const PAGE_BYTES: usize = 972_450;
+pub const PAGE_BYTES: usize = 979_630;
 /// What [`livelist`](crate::livelist) is lent: no list of live sets is longer.
 pub const LIVELIST_BYTES: usize = 39_953;
 

@@ -3,7 +3,10 @@ mod common;
 use common::*;
 use std::fs;
 
-const COMMANDS: [&str; 12] = ["page", "live", "flow", "rewrite", "renumber", "check", "assemble", "list", "mark", "in-use", "conditional", "dying"];
+const COMMANDS: [&str; 13] = ["page", "live", "flow", "rewrite", "renumber", "label", "check", "assemble", "list", "mark", "in-use", "conditional", "dying"];
+
+/// The sheets that are stored as text, as bytes and with their page.
+const PAGES: [&str; 7] = ["m1", "m2", "m3", "m4", "m5", "m6", "unnamed"];
 
 #[test]
 fn text_or_bytes_whatever_the_name() {
@@ -11,7 +14,7 @@ fn text_or_bytes_whatever_the_name() {
     let (text, bytes) = (fs::read(stored("m6.txt")).unwrap(), fs::read(stored("m6.sheet")).unwrap());
     let swapped = [file(&dir, "m6.sheet", &text), file(&dir, "m6.txt", &bytes)];
     let with_mark = file(&dir, "mark", [&[0xef, 0xbb, 0xbf], &text[..]].concat());
-    for command in ["page", "live", "flow", "rewrite", "renumber", "check", "list"] {
+    for command in ["page", "live", "flow", "rewrite", "renumber", "label", "check", "list"] {
         let wanted = run(&[command, &stored("m6.txt")]);
         assert_eq!(wanted.0, 0);
         for other in [&stored("m6.sheet"), &swapped[0], &swapped[1], &with_mark] {
@@ -27,20 +30,20 @@ fn text_or_bytes_whatever_the_name() {
 fn flow_rewrite_check() {
     answered(&["flow", &stored("m6.txt")], "0 to 0: key 4, leads to 2 3\n1 to 3: key 2, leads to 1\n4 to 5: key 3, leads to 1\nblocks 3\n");
     answered(&["check", &stored("m6.txt")], "accepted\n");
-    for m in 1..=6 {
-        let page = fs::read_to_string(stored(&format!("m{m}.page"))).unwrap();
+    for m in PAGES {
+        let page = fs::read_to_string(stored(&format!("{m}.page"))).unwrap();
         let parts: Vec<&str> = page.split("\n\n").collect();
-        answered(&["flow", &stored(&format!("m{m}.sheet"))], &(parts[1].strip_prefix("flow\n").unwrap().to_string() + "\n"));
-        answered(&["rewrite", &stored(&format!("m{m}.sheet"))], parts[3].strip_prefix("rewritten\n").unwrap());
+        answered(&["flow", &stored(&format!("{m}.sheet"))], &(parts[1].strip_prefix("flow\n").unwrap().to_string() + "\n"));
+        answered(&["rewrite", &stored(&format!("{m}.sheet"))], parts[3].strip_prefix("rewritten\n").unwrap());
     }
 }
 
 #[test]
 fn page_and_live() {
-    for m in 1..=6 {
-        let page = fs::read_to_string(stored(&format!("m{m}.page"))).unwrap();
-        answered(&["page", &stored(&format!("m{m}.sheet"))], &page);
-        answered(&["page", &stored(&format!("m{m}.txt"))], &page);
+    for m in PAGES {
+        let page = fs::read_to_string(stored(&format!("{m}.page"))).unwrap();
+        answered(&["page", &stored(&format!("{m}.sheet"))], &page);
+        answered(&["page", &stored(&format!("{m}.txt"))], &page);
     }
     answered(
         &["live", &stored("m2.txt")],
@@ -54,7 +57,7 @@ fn page_and_live() {
 #[test]
 fn assemble_and_list() {
     let dir = folder("assemble");
-    for m in ["m1", "m2", "m3", "m4", "m5", "m6"] {
+    for m in PAGES {
         let to = dir.join(m).display().to_string();
         let bytes = fs::read(stored(&format!("{m}.sheet"))).unwrap();
         answered(&["assemble", "-o", &to, &stored(&format!("{m}.txt"))], "");
@@ -144,6 +147,41 @@ fn renumbered_bytes() {
     refused(&["renumber", &bytes], &says.replace("line 3, ", ""));
 }
 
+/// Every label of a sheet by its offset, or one: each way, and who names it.
+#[test]
+fn labels_in_words() {
+    let dir = folder("labels");
+    let text = fs::read_to_string(stored("unnamed.txt")).unwrap();
+    let readme = fs::read_to_string(root().join("README.md")).unwrap();
+    let (status, out, _) = run(&["label", &stored("unnamed.txt")]);
+    assert_eq!((status, &out[..]), (0, "L1: at offset 0, named by offset 2\nL5: at offset 1, never named\nL2: at offset 3, named by offset 2\n"));
+    // README shows the sheet, without its comment, and what is printed
+    for part in [text.split_once('\n').unwrap().1, &out] {
+        assert!(readme.contains(&format!("```text\n{part}```\n")), "{part}");
+    }
+    for (word, says) in [
+        ("L5", "L5: at offset 1, never named\n"),
+        ("5", "L5: at offset 1, never named\n"),
+        ("L0", "L0: undefined\n"),
+        ("65541", "L65541: undefined\n"),
+        ("L4294967295", "L4294967295: undefined\n"),
+    ] {
+        answered(&["label", &stored("unnamed.txt"), word], says);
+        assert_eq!(fed(&["label", "-", word], text.as_bytes()).1, says);
+    }
+    // named twice by one Branch, by a Jump that no path reaches and by an abort action
+    let many = "locals 1 user 0 parameters 0 references\nlabel L7\nbranch L7 L7 on t0\njump L7\ncall Not abort L7 into t0\nlabel L0\nret\n";
+    answered(&["label", &file(&dir, "many", many)], "L7: at offset 0, named by offsets 1 2 3\nL0: at offset 4, never named\n");
+    answered(&["label", &stored("m1.txt")], "there are no labels\n");
+    answered(&["label", &stored("m1.txt"), "L1"], "L1: undefined\n");
+    for word in ["x", "L", "", "l1", "-1", "L-1", "+1", "L4294967296", "t0", "LL1"] {
+        trouble(&["label", "--", &stored("m2.txt"), word], &format!("'{word}' is no label: L0 to L4294967295, such as L1"));
+    }
+    trouble(&["label", &stored("m2.txt"), "-1"], "'-1' is no option here");
+    trouble(&["label", &stored("m2.txt"), "L1", "L2"], "'L2' is one word too many");
+    trouble(&["label", &stored("m7.txt")], "a graph, where a sheet should stand");
+}
+
 #[test]
 fn graphs() {
     answered(&["in-use", &stored("m7.txt"), "0"], "0: yes, 0 -> 1 -> 2, and 2 is live\n");
@@ -221,9 +259,10 @@ fn refusals_in_words() {
         (&format!("{head}label L1\ncall Stop abort L1 into t0\n"), "8 1\nline 3, offset 1: a Stop with an abort action is the last instruction and can fall past the end\n"),
     ] {
         let sheet = file(&dir, "sheet", text);
-        for command in ["check", "flow", "rewrite", "renumber", "list"] {
+        for command in ["check", "flow", "rewrite", "renumber", "label", "list"] {
             refused(&[command, &sheet], &format!("refused {says}"));
         }
+        refused(&["label", &sheet, "L7"], &format!("refused {says}"));
     }
     let mut bytes = fs::read(stored("m1.sheet")).unwrap();
     bytes[512 + 20] = 1;

@@ -45,6 +45,7 @@ int main(void) {
     same("rewrite", out, m1, 1024);
     is("renumber", sorzibelu_renumber(m1, 1024, out, sizeof out), 0, 1024);
     same("renumber", out, m1, 1024);
+    is("label", sorzibelu_label(m1, 1024, 1), 0, 65536u * SORZIBELU_UNDEFINED);
     is("in use", sorzibelu_in_use(3, 4, chain, 6, 0), 0, 1);
     is("conditional", sorzibelu_conditional(3, 4, chain, 6, 0), 0, 0);
     is("dying", sorzibelu_dying(3, 4, chain, 6, 3, 0, chain, 6, nodes, sizeof nodes), 0, 3);
@@ -58,6 +59,7 @@ int main(void) {
     is("no output", sorzibelu_rewrite(m1, 1024, NULL, 0), SORZIBELU_SHORT_OUTPUT, 0);
     is("no output", sorzibelu_renumber(m1, 1024, NULL, 0), SORZIBELU_SHORT_OUTPUT, 0);
     is("no sheet, no output", sorzibelu_renumber(NULL, 0, NULL, 0), SORZIBELU_LENGTH, 0);
+    is("no sheet, a label", sorzibelu_label(NULL, 0, 0), SORZIBELU_LENGTH, 0);
     is("no triples", sorzibelu_in_use(1, 1, NULL, 0, 0), 0, 1);
     is("no triples, no node", sorzibelu_conditional(0, 0, NULL, 0, 0), SORZIBELU_ASKED_NODE, 0);
     is("nothing at all", sorzibelu_dying(0, 0, NULL, 0, 0, 0, NULL, 0, NULL, 0), 0, 0);
@@ -82,6 +84,18 @@ int main(void) {
     m1[576] = 2;
     m1[514] = 24;
     is("a hidden local", sorzibelu_renumber(m1, 1024, out, sizeof out), SORZIBELU_HIDDEN_LOCAL, 0);
+    /* the IsParent made a Label 7, which nothing names, and the Ret behind it a Jump to it */
+    m1[544] = 6;
+    m1[544 + 1] = m1[544 + 9] = 0;
+    m1[544 + 4] = 7;
+    m1[514] = 16;
+    is("never named", sorzibelu_label(m1, 1024, 7), 0, 65536u * SORZIBELU_UNNAMED);
+    m1[576] = 5;
+    m1[576 + 4] = 7;
+    m1[514] = 26;
+    is("named", sorzibelu_label(m1, 1024, 7), 0, 65536u * SORZIBELU_NAMED);
+    is("above 65,535", sorzibelu_label(m1, 1024, 65536u + 7), 0, 65536u * SORZIBELU_UNDEFINED);
+    if (SORZIBELU_WAY(65536u * SORZIBELU_UNNAMED + 1023) != SORZIBELU_UNNAMED || SORZIBELU_OFFSET(65536u * SORZIBELU_UNNAMED + 1023) != 1023) failed = 1;
     puts(failed ? "failed" : "all right");
     return failed;
 }

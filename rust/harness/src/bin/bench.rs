@@ -1,8 +1,8 @@
 //! `bench [ORACLE]`: times the proved calls beside the small program of rust/harness/src/masks.rs on the same sheets and graphs, in one run; with an oracle, beside the original
 //! Rust as well, over a pipe whose own cost is measured in the same rounds and taken off. `bench families` only says how many blocks each looped sheet takes; `bench repeat SHEET` only runs
 //! live on a sheet of the table 20,000 times, for a profiler.
-use harness::{masks, oracle::*, random, random::Rng, Bytes};
-use sorzibelu::{check, conditional, dying, flow, in_use, live, renumber, rewrite, sheet::*, Graph};
+use harness::{masks, oracle::*, plain, random, random::Rng, Bytes};
+use sorzibelu::{check, conditional, dying, flow, in_use, live, renumber, rewrite, sheet::*, Graph, Lookup};
 use std::{hint::black_box, process::Child, time::Instant};
 
 const ROUNDS: usize = 200;
@@ -287,6 +287,23 @@ fn main() {
             oracle.as_mut().map(|o| (o, ELIMINATE, s)),
         );
         assert!(d[..length] == e[..length]);
+    }
+    // the last Label that is named and the last that is not; a number that no Label has where there is none
+    for (name, sheet) in [&sheets[0], &sheets[1], &sheets[5]] {
+        let s = &sheet.bytes()[..];
+        let look = |l: u32| sorzibelu::label(s, l).unwrap();
+        let last = |is: fn(Lookup) -> bool| plain::labels(&sheet.code).into_iter().rev().find(|l| is(look(*l)));
+        let asked = [last(|x| matches!(x, Lookup::Named(_))), last(|x| matches!(x, Lookup::Unnamed(_)))];
+        for l in asked.into_iter().flatten().chain(asked.iter().all(Option::is_none).then_some(1)) {
+            assert_eq!(masks::label(s, l), Ok(plain::packed(look(l))));
+            row(
+                &format!("label, {name}, {:?}", look(l)),
+                call(|| sorzibelu::label(black_box(s), black_box(l))),
+                Some(call(|| masks::label(black_box(s), black_box(l)))),
+                None,
+                None,
+            );
+        }
     }
     // graphs: 64 nodes, 246 triples, four from each node to the next ones
     let triples: Vec<u32> = (0..64u32).flat_map(|p| (1..5).filter(move |d| p + d < 64).flat_map(move |d| [p, p + d, 0])).collect();

@@ -25,6 +25,11 @@ fn successors(code: &[Instruction], offset_of: &[usize], k: usize) -> Vec<usize>
     v
 }
 
+/// A block ends with it.
+pub fn ends_block(r: &Instruction) -> bool {
+    matches!(r.kind, BRANCH | JUMP | RET | ABORT) || r.kind == CALL && (r.sub == 18 || r.abort.is_some())
+}
+
 pub fn blocks(code: &[Instruction]) -> Blocks {
     let n = code.len();
     let mut offset_of = vec![n; 65536];
@@ -34,8 +39,7 @@ pub fn blocks(code: &[Instruction]) -> Blocks {
     let mut starts = vec![false; n + 1];
     starts[0] = true;
     for (k, r) in code.iter().enumerate() {
-        let branches = matches!(r.kind, BRANCH | JUMP | RET | ABORT) || r.kind == CALL && (r.sub == 18 || r.abort.is_some());
-        if branches {
+        if ends_block(r) {
             starts[k + 1] = true;
             match r.kind {
                 BRANCH => {

@@ -6,7 +6,7 @@ use super::{
     starts::{own_key_first, Starts},
     Kind,
 };
-use crate::text::quoted;
+use crate::text::{digits, quoted};
 use std::collections::HashMap;
 
 /// One block: lower and upper offset, key, keys of the successors.
@@ -21,17 +21,34 @@ pub(super) struct Row {
 /// The right table, by the proved call, and reasons for it.
 pub(super) struct Right {
     pub rows: Vec<Row>,
+    /// The labels that nothing names, in ascending order.
+    pub unnamed: Vec<u16>,
     pub starts: Starts,
 }
 
 enum Said {
     Row(Row),
     Blocks(usize),
+    NeverNamed(Vec<u16>),
     Refused,
 }
 
-/// `0 to 3: key 2, leads to 2 3`, or the numbers alone, 0 filling up or not; `blocks 2`.
+/// The labels of `never named L3 L7`, nothing where the line does not begin so.
+fn never_named(line: &str) -> Option<Result<Vec<u16>, String>> {
+    let mut words = line.split_whitespace();
+    let mut is = |word: &str| words.next().is_some_and(|w| w.trim_end_matches(':').eq_ignore_ascii_case(word));
+    if !is("never") || !is("named") {
+        return None;
+    }
+    let label = |w: &str| digits(w, "L").or(digits(w, "l")).and_then(|d| d.parse().ok()).ok_or_else(|| format!("{} is no label such as L1", quoted(w)));
+    Some(words.flat_map(|w| w.split(',')).filter(|w| !w.is_empty()).map(label).collect())
+}
+
+/// `0 to 3: key 2, leads to 2 3`, or the numbers alone, 0 filling up or not; `blocks 2`; `never named L3 L7`.
 fn read(line: &str) -> Result<Said, String> {
+    if let Some(labels) = never_named(line) {
+        return labels.map(Said::NeverNamed);
+    }
     let words = answer::words(line)?;
     if let Some(refused) = answer::refused(&words) {
         return refused.map(|_| Said::Refused);
@@ -66,13 +83,22 @@ fn keys(next: &[usize]) -> String {
     next.iter().map(usize::to_string).collect::<Vec<_>>().join(" ")
 }
 
-/// The marks of an answer to an accepted sheet.
+/// `L3 L7`.
+fn all(labels: &[u16]) -> String {
+    if labels.is_empty() {
+        return "no label".into();
+    }
+    labels.iter().map(|l| format!("L{l}")).collect::<Vec<_>>().join(" ")
+}
+
+/// The marks of an answer to an accepted sheet. The labels that nothing names are not asked, and told where they are wrong.
 pub(super) fn mark(right: &Right, lines: &[Line]) -> Report {
-    let Right { rows: right, starts } = right;
+    let Right { rows: right, unnamed, starts } = right;
     let mut report = Report::new(Kind::Flow, right.len() + 1);
     let place: HashMap<usize, usize> = right.iter().enumerate().map(|(i, r)| (r.lower, i)).collect();
     let mut given: Vec<Option<(Row, usize)>> = vec![None; right.len()];
     let mut blocks: Option<(usize, usize)> = None;
+    let mut labels: Option<usize> = None;
     for line in lines {
         let at = format!("line {}", line.number);
         match read(line.text) {
@@ -81,6 +107,16 @@ pub(super) fn mark(right: &Right, lines: &[Line]) -> Report {
             Ok(Said::Blocks(count)) => match blocks {
                 Some((_, before)) => report.find(Verdict::Twice, format!("{at}: blocks was answered in line {before}, which counts"), ""),
                 None => blocks = Some((count, line.number)),
+            },
+            Ok(Said::NeverNamed(mut said)) => match labels {
+                Some(before) => report.find(Verdict::Twice, format!("{at}: the labels that nothing names were answered in line {before}, which counts"), ""),
+                None => {
+                    labels = Some(line.number);
+                    said.sort_unstable();
+                    if said != *unnamed {
+                        report.find_unasked(format!("{at}: never named: {} should stand here", all(unnamed)), "");
+                    }
+                }
             },
             Ok(Said::Row(row)) => match place.get(&row.lower).map(|i| &mut given[*i]) {
                 None => report.find(Verdict::Extra, format!("{at}: no block starts at {}", row.lower), starts.why(row.lower)),

@@ -1,7 +1,7 @@
 //! What is asked: a sheet or a pair of graphs, and the right answers to it by the proved calls.
 use super::{answer, answer::Line, dying, fates::Fates, flow, live, live::Refused, report::Report, rewritten, rules::Rules, starts::Starts, Kind};
 use crate::{
-    blocks, graph, live_sets, rewritten as rewrite,
+    blocks, graph, live_sets, never_named, rewritten as rewrite,
     sheet::{why, Sheet},
     text, Block, Refusal,
 };
@@ -50,7 +50,9 @@ impl Question {
         };
         let flow = |sheet: &Sheet| -> Result<flow::Right, Refusal> {
             let rows = blocks(bytes)?.into_iter().map(row).collect();
-            Ok(flow::Right { rows, starts: Starts::new(sheet) })
+            let mut unnamed = never_named(bytes)?;
+            unnamed.sort_unstable();
+            Ok(flow::Right { rows, unnamed, starts: Starts::new(sheet) })
         };
         let rewritten = |sheet: &Sheet| -> Result<rewritten::Right, Refusal> {
             let new = Sheet::try_from(&rewrite(bytes)?[..])?;

@@ -28,11 +28,8 @@ impl Starts {
     pub fn new(sheet: &Sheet) -> Starts {
         let mut named = HashMap::new();
         for (k, r) in sheet.code.iter().enumerate() {
-            if matches!(r.kind, BRANCH | JUMP) || r.abort.is_some() {
-                named.entry(r.one).or_insert(k);
-            }
-            if r.kind == BRANCH {
-                named.entry(r.two).or_insert(k);
+            for label in r.names() {
+                named.entry(label).or_insert(k);
             }
         }
         Starts { code: sheet.code.clone(), named }

@@ -1,4 +1,4 @@
-//! Every edge of document 01 that a sheet can show, and every rule of renumbering.
+//! Every edge of document 01 that a sheet can show, every rule of renumbering, every way of a label.
 use harness::{Bytes, random};
 use sorzibelu::{sheet::*, text};
 use std::fs;
@@ -29,6 +29,61 @@ pub fn numberings() -> Vec<Sheet> {
         let call = Instruction { sub, dsts: (56..64).rev().collect(), srcs: (0..8).collect(), ..Instruction::new(CALL) };
         all.push(Sheet { locals: 64, references: 1 << 63 | 1, code: [&nops[..], &[call, last.clone()]].concat(), ..Default::default() });
     }
+    all
+}
+
+/// Sheets and the labels that are asked of them: each way, whoever names a label and wherever it stands, numbers at the limits and past them, each refusal.
+pub fn lookups() -> Vec<(Vec<u8>, Vec<u32>)> {
+    let head = "locals 1 user 1 parameters 0 references\n";
+    let mut all = vec![];
+    for (code, asked) in [
+        // no Label at all; an unflagged Call's label one is 0, and so are those of other kinds: they name nothing
+        ("ret", &[0, 1, 65_535, 65_536, u32::MAX][..]),
+        ("label L0\nnop\ncall Not\nt0 <- load Bool\nret", &[0, 1, 65_536]),
+        ("call Stop\nlabel L0\nret", &[0]),
+        // named by then, by else, by both, by a Jump, by a Call and by a Stop with an abort action; the others are not
+        ("branch L1 L2 on t0\nlabel L1\nlabel L2\nlabel L3\nret", &[0, 1, 2, 3, 4]),
+        ("branch L2 L2 on t0\nlabel L1\nlabel L2\nret", &[1, 2]),
+        ("jump L1\nlabel L1\nlabel L0\nret", &[0, 1]),
+        ("call Not abort L1 into t0\nlabel L0\nlabel L1\nret", &[0, 1]),
+        ("call Stop abort L1 into t0\nlabel L0\nlabel L1\nret", &[0, 1]),
+        // named only in front of the Label, only behind it, only where no path leads
+        ("jump L7\nlabel L6\nlabel L7\nret", &[6, 7]),
+        ("label L6\nlabel L7\nnop\njump L7", &[6, 7]),
+        ("label L7\nbranch L7 L7 on t0", &[7]),
+        ("nop\nlabel L1\nret\njump L1", &[1]),
+        ("ret\nlabel L1\njump L1\nlabel L2\nret", &[1, 2]),
+        ("nop\nlabel L1\nret\ncall Not abort L1 into t0\nret", &[1]),
+        // the same number in another field: an attribute id, a payload
+        ("label L5\ncall Not #5 @5\nsavemem #5\nret @5", &[5]),
+        // the limits of a label's number; a number that is one of them in its low bits
+        ("label L65535\nlabel L0\nbranch L65535 L0 on t0", &[0, 65_535, 65_536, 65_536 + 65_535, u32::MAX]),
+        ("label L65535\nlabel L0\nlabel L1\nret", &[0, 1, 65_535, 65_536, 65_537, 131_072, 1 << 31, u32::MAX]),
+        ("label L256\nlabel L1\njump L256", &[0, 1, 255, 256, 257, 65_536 + 256]),
+        // refused
+        ("label L1\nret t1", &[1]),
+        ("label L1\nlabel L1\njump L1", &[1, 2]),
+        ("label L1\njump L2", &[1, 2]),
+        ("jump L1\nlabel L1", &[1, u32::MAX]),
+    ] {
+        all.push((assembled(&format!("{head}{code}\n")).bytes(), asked.to_vec()));
+    }
+    // a Label at the first offset and at the last one that a Label can have, named from the other end
+    for (first, last) in [("label L9", "jump L9"), ("jump L9", "label L9\nret"), ("nop", "label L9\nret"), ("label L9", "ret")] {
+        let between = "nop\n".repeat(1_024 - 1 - last.lines().count());
+        all.push((assembled(&format!("{head}{first}\n{between}{last}\n")).bytes(), vec![0, 9, 10]));
+    }
+    // 1,023 Labels from the highest number down, one of them named
+    let down = (0..1_023).map(|k| Instruction { one: 65_535 - k, ..Instruction::new(LABEL) });
+    let code = down.chain([Instruction { one: 65_000, ..Instruction::new(JUMP) }]).collect();
+    all.push((Sheet { code, ..Default::default() }.bytes(), vec![0, 64_512, 64_513, 64_514, 65_000, 65_534, 65_535]));
+    // 1 to 4
+    let fine = all[0].0.clone();
+    let at = |at: usize, to: u8| fine.iter().enumerate().map(|(i, x)| if i == at { to } else { *x }).collect::<Vec<u8>>();
+    let (mut heading, mut record) = (at(6, 65), at(record_start(0), 12));
+    seal(&mut heading);
+    seal(&mut record);
+    all.extend([vec![], vec![0; 36_352], at(2, 9), at(512, 2), heading, record].map(|s| (s, vec![0, 65_536])));
     all
 }
 

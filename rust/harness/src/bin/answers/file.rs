@@ -1,11 +1,12 @@
 //! The file of stored answers: a case, how it is packed and unpacked, and its replay with the proved calls.
-use harness::oracle::*;
-use sorzibelu::{Graph, Refusal, check, conditional, dying, flow, graph::Owned, in_use, live, renumber, rewrite};
+use harness::{oracle::*, plain};
+use sorzibelu::{Graph, Refusal, check, conditional, dying, flow, graph::Owned, in_use, label, live, renumber, rewrite};
 use std::collections::HashMap;
 
 // behind the first six, which have the original's numbers
 pub const CHECK: u8 = 7;
 pub const RENUMBER: u8 = 8;
+pub const LABEL: u8 = 9;
 pub const WRONG: u8 = 128;
 pub const FILLING: u8 = 0xA5;
 pub const HEAD: usize = 16;
@@ -118,6 +119,7 @@ pub fn agrees(op: u8, lent: usize, result: u64, input: &[u8], second: &[u8], wri
             let g = of_given(input);
             packed(if op == IN_USE { in_use(g.graph(), node) } else { conditional(g.graph(), node) }.map(u32::from))
         }
+        LABEL => packed(label(input, u32::from_le_bytes(second.try_into().unwrap())).map(plain::packed)),
         DYING => packed(dying(of_given(input).graph(), of_given(second).graph(), &mut bytes[..lent])),
         _ => packed(check(input).map(|()| 0)),
     };
@@ -129,7 +131,7 @@ pub fn agrees(op: u8, lent: usize, result: u64, input: &[u8], second: &[u8], wri
 pub fn replay(file: &[u8]) -> usize {
     let u32_at = |at: usize| u32::from_le_bytes(file[at..at + 4].try_into().unwrap()) as usize;
     assert!(&file[..8] == b"replay 1" && u32_at(12) == file.len());
-    let (mut counts, mut bad, mut wrong, mut found) = ([0; 9], 0, 0, 0);
+    let (mut counts, mut bad, mut wrong, mut found) = ([0; 10], 0, 0, 0);
     for k in 0..u32_at(8) {
         let row = HEAD + ROW * k;
         let string = |at: usize| unpack(&file[u32_at(row + at)..u32_at(row + at) + u32_at(row + at + 4)]);
@@ -150,7 +152,7 @@ pub fn replay(file: &[u8]) -> usize {
             }
         }
     }
-    for (op, name) in (1..).zip(["flow", "live", "rewrite", "in use", "conditional", "dying", "check", "renumber"]) {
+    for (op, name) in (1..).zip(["flow", "live", "rewrite", "in use", "conditional", "dying", "check", "renumber", "label"]) {
         println!("{name} {} {}", counts[op], if (4..7).contains(&op) { "graphs" } else { "sheets" });
     }
     println!("{} cases, {bad} differences\n{wrong} made wrong, {found} found", counts.iter().sum::<usize>());

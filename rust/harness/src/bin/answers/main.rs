@@ -1,15 +1,16 @@
 //! `answers ORACLE FILE`: writes the stored answers that crates/replay replays, in the format of crates/replay/FORMAT.txt.
 //!
-//! Answers of accepted sheets, 10, 11 and 15 among them, and of graphs are the original's, behind oracle/. Refusals, short output and the
+//! Answers of accepted sheets, 10, 11 and 15 among them, of labels and of graphs are the original's, behind oracle/. Refusals, short output and the
 //! questions that the original does not finish are answered by the plain reading (rust/harness/src/plain.rs); no answer comes from the proved calls.
 //! Then the file is read back and replayed with the proved calls, and what crates/replay must print is printed.
 mod edges;
 mod file;
 
-use edges::{edges, numberings};
+use edges::{edges, lookups, numberings};
 use file::*;
 use harness::{Bytes, graphs, oracle::*, plain, random, random::Rng};
 use sorzibelu::{
+    Lookup,
     graph::Owned,
     sheet::{MAX_BYTES, Sheet},
 };
@@ -22,17 +23,21 @@ use std::{
 struct Maker {
     oracle: Child,
     rng: Rng,
-    /// Of its own, so that the other calls' cases stay as they were.
+    /// These two are for renumber and label alone, so that the other calls' cases stay as they were.
     numbering: Rng,
+    looking: Rng,
     cases: Vec<Case>,
 }
 
 impl Maker {
-    /// All calls on a sheet: output exact, and one of short, empty and long for each.
+    /// All calls on a sheet: output exact, and one of short, empty and long for each; some of the sheets are asked for a label.
     fn sheet(&mut self, s: &[u8]) {
         let case = |op, lent, result, written: &[u8]| Case { op, lent, result, input: s.to_vec(), second: vec![], written: written.to_vec() };
         let checked = plain::check(s);
         self.cases.push(case(CHECK, 0, checked.map(|()| 0), &[]));
+        if self.looking.chance(if checked.is_ok() { 2 } else { 4 }) {
+            self.any_label(s);
+        }
         if let Err(r) = checked {
             let few = self.rng.below(40);
             for (op, enough) in [(FLOW, 6144), (LIVE, 16_384), (REWRITE, MAX_BYTES)] {
@@ -92,6 +97,29 @@ impl Maker {
         }
     }
 
+    /// The lookup of labels.
+    fn labels(&mut self, s: &[u8], asked: &[u32]) {
+        let known = plain::check(s).map(|()| match ask(&mut self.oracle, LABELS, s) {
+            (0, data) => labels(&data),
+            (status, _) => panic!("the original answers {status} to question {LABELS}"),
+        });
+        for label in asked {
+            let found = known.as_ref().map(|known| known.get(label).copied().unwrap_or(Lookup::Undefined));
+            let result = found.map(plain::packed).map_err(|r| *r);
+            self.cases.push(Case { op: LABEL, lent: 0, result, input: s.to_vec(), second: label.to_le_bytes().to_vec(), written: vec![] });
+        }
+    }
+
+    /// The lookup of one of a sheet's labels, mostly, or of another number.
+    fn any_label(&mut self, s: &[u8]) {
+        let numbers = plain::check(s).map_or(vec![], |()| plain::labels(&Sheet::of_bytes(s).code));
+        let label = match numbers.len() {
+            0 => self.looking.below(3) as u32,
+            many => numbers[self.looking.below(many)] + u32::from(self.looking.chance(8)),
+        };
+        self.labels(s, &[label]);
+    }
+
     /// In use and conditional of a node.
     fn node(&mut self, a: &Owned, node: u32) {
         let g = a.graph();
@@ -130,7 +158,7 @@ impl Maker {
     fn made_wrong(&mut self) {
         let ends = |c: &Case| c.written.len() > 1 && c.written.last() != Some(&FILLING);
         let mut wrong = vec![];
-        for op in 1..=RENUMBER {
+        for op in 1..=LABEL {
             let writes = matches!(op, FLOW | LIVE | REWRITE | DYING | RENUMBER);
             let of = |accepted: bool| self.cases.iter().filter(move |c| c.op == op && c.result.is_ok() == accepted && (!accepted || !writes || ends(c)));
             for (i, c) in of(true).step_by(1 + of(true).count() / 3).enumerate() {
@@ -163,6 +191,11 @@ impl Maker {
                 }
             }
         }
+        // another way with the same offset
+        for c in self.cases.iter().filter(|c| c.op == LABEL && c.result.is_ok()).step_by(40) {
+            let turned = |value: u32, by: u32| 65_536 * (1 + (value / 65_536 - 1 + by) % 3) + value % 65_536;
+            wrong.extend([1, 2].map(|by| Case { result: c.result.map(|value| turned(value, by)), ..c.clone() }));
+        }
         // 9 for 15, and 15 at another place
         for c in self.cases.iter().filter(|c| matches!(c.result, Err((15, _)))).step_by(12) {
             let place = c.result.map_or_else(|(_, place)| place, |_| 0);
@@ -173,7 +206,7 @@ impl Maker {
 }
 
 fn make(oracle: Child) -> Vec<Case> {
-    let mut m = Maker { oracle, rng: Rng::new(11), numbering: Rng::new(13), cases: vec![] };
+    let mut m = Maker { oracle, rng: Rng::new(11), numbering: Rng::new(13), looking: Rng::new(14), cases: vec![] };
     for s in edges() {
         m.sheet(&s);
     }
@@ -209,6 +242,9 @@ fn make(oracle: Child) -> Vec<Case> {
         if s.code.len() < 60 {
             m.renumberings(&s.bytes());
         }
+    }
+    for (s, asked) in lookups() {
+        m.labels(&s, &asked);
     }
     // M7, M8, cycles and chains; then random graphs, fine, cyclic and broken
     let chain = [[0, 1, 0], [1, 2, 0]];

@@ -21,6 +21,8 @@ pub struct Run {
     pub turn: usize,
     /// How many calls had exact, short, empty and long output.
     pub rooms: [usize; 4],
+    /// How many labels were named, never named and undefined.
+    pub ways: [usize; 3],
     /// Graph questions that the original would not finish.
     pub unfinished: usize,
     pub smallest_sheet: Option<Vec<u8>>,

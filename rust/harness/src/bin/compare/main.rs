@@ -4,8 +4,8 @@
 //!
 //! a: every sheet of up to five instructions over small alphabets, up to six where COUNT is 20,000 or more. b: random sheets, sheets moved
 //! to the edges of 10 and 11, sheets with locals that nothing mentions, one that keeps the work list full. c: damaged copies. d: graphs without and with cycles, broken ones.
-//! e: every call with lent output exact, short, empty and long, between guards. The smallest sheet or graph with a difference is made
-//! smaller and printed with both answers; the status is then 1.
+//! e: every call with lent output exact, short, empty and long, between guards. f: in each accepted sheet every label, and numbers that no Label has.
+//! The smallest sheet or graph with a difference is made smaller and printed with both answers; the status is then 1.
 mod graphs;
 mod judge;
 mod sheets;
@@ -125,7 +125,7 @@ fn random_ones(run: &mut Run, count: usize, seed: u64) -> bool {
 }
 
 fn compare(oracle: Child, count: usize, seeds: &[u64]) -> bool {
-    let mut run = Run { oracle, turn: 0, rooms: [0; 4], unfinished: 0, smallest_sheet: None, smallest_graphs: None };
+    let mut run = Run { oracle, turn: 0, rooms: [0; 4], ways: [0; 3], unfinished: 0, smallest_sheet: None, smallest_graphs: None };
     small_sheets(&mut run, usize::from(count >= 20_000));
     let mut fine = true;
     for seed in seeds {
@@ -133,6 +133,8 @@ fn compare(oracle: Child, count: usize, seeds: &[u64]) -> bool {
     }
     let [exact, short, empty, long] = run.rooms;
     println!("e  lent output between guards: exact {exact}, one short {short}, empty {empty}, long {long} times");
+    let [named, unnamed, undefined] = run.ways;
+    println!("f  labels looked up: named {named}, never named {unnamed}, undefined {undefined} times");
     if let Some(s) = run.smallest_sheet.take() {
         run.print_sheet(&s);
         fine = false;

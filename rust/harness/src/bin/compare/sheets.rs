@@ -1,7 +1,8 @@
 //! Sheets: every call beside the original and the plain reading.
 use crate::judge::*;
 use harness::{Bytes, lent::lend, oracle::*, plain};
-use sorzibelu::{check, flow, live, renumber, rewrite, sheet::*, text};
+use sorzibelu::{Lookup, check, flow, label, live, renumber, rewrite, sheet::*, text};
+use std::collections::BTreeSet;
 
 impl Run {
     /// All calls on one sheet, beside the plain reading's checks and, where these accept it, the answers of the original.
@@ -16,6 +17,7 @@ impl Run {
             same("live", lend(room(16_384), turn, |_| 0, |t| live(s, t))?.0, Err(r))?;
             same("rewrite", lend(room(MAX_BYTES), turn, |b| b as usize, |t| rewrite(s, t))?.0, Err(r))?;
             same("renumber", lend(room(s.len()), turn, |b| b as usize, |t| renumber(s, t))?.0, Err(r))?;
+            same("label", label(s, turn as u32).map_err(pair), Err(r))?;
             return Ok(());
         }
         let sheet = Sheet::of_bytes(s);
@@ -45,9 +47,10 @@ impl Run {
             same_as(&format!("rewrite, {room} bytes lent"), answer.map(|_| wrote), wanted, show_sheet)?;
         }
         self.judge_renumbering("renumber", s, &answers[3])?;
+        self.judge_labels(s, &sheet.code, &answers[0], &answers[4])?;
         if let Ok(new) = new {
             same("check of the rewritten sheet", check(&new).map_err(pair), Ok(()))?;
-            if let Some(answer) = answers.get(4) {
+            if let Some(answer) = answers.get(5) {
                 self.judge_renumbering("renumber of the rewritten sheet", &new, answer)?;
             }
         }
@@ -72,10 +75,32 @@ impl Run {
         Ok(())
     }
 
-    /// What the original says of accepted sheets: flow, live, rewriting, renumbering, and where the rewritten sheet is another one, its renumbering.
+    /// Label on an accepted sheet, of every number that a Label has and of some more, beside the plain reading and the original; and beside the original's flow table: a
+    /// Label that stands behind nothing that ends a block starts one exactly where it is named.
+    fn judge_labels(&mut self, s: &[u8], code: &[Instruction], table: &Answer, answer: &Answer) -> Result<(), String> {
+        let known = labels(&theirs(answer).map_err(|refused| format!("labels: the original answers {refused:?}"))?);
+        let mut numbers = plain::labels(code);
+        numbers.extend([0, 1, 65_535, 65_536, u32::MAX]);
+        numbers.extend(known.last_key_value().map(|(l, _)| l + 1));
+        numbers.extend(known.keys().nth(self.turn % known.len().max(1)).map(|l| 65_536 + l));
+        for l in numbers {
+            let there = known.get(&l).copied().unwrap_or(Lookup::Undefined);
+            self.ways[plain::packed(there) as usize / 65_536 - 1] += 1;
+            same(&format!("label {l}; here the plain reading, there the original"), plain::lookup(code, l), there)?;
+            same(&format!("label {l}"), label(s, l).map_err(pair), Ok(there))?;
+        }
+        let starts: BTreeSet<u16> = table.1.chunks(12).map(|row| u16::from_le_bytes([row[0], row[1]])).collect();
+        for k in (1..code.len()).filter(|k| code[*k].kind == LABEL && !plain::ends_block(&code[k - 1])) {
+            let named = known.get(&code[k].one.into()) == Some(&Lookup::Named(k as u16));
+            same(&format!("label {} is named; there whether a block of the original starts at {k}", code[k].one), named, starts.contains(&(k as u16)))?;
+        }
+        Ok(())
+    }
+
+    /// What the original says of accepted sheets: flow, live, rewriting, renumbering, labels, and where the rewritten sheet is another one, its renumbering.
     fn ask(&mut self, sheets: &[&[u8]]) -> Vec<Vec<Answer>> {
-        let requests: Vec<(u8, &[u8])> = sheets.iter().flat_map(|s| [FLOW, LIVE, REWRITE, ELIMINATE].map(|op| (op, *s))).collect();
-        let mut all: Vec<Vec<Answer>> = pump(&mut self.oracle, &requests).chunks(4).map(<[_]>::to_vec).collect();
+        let requests: Vec<(u8, &[u8])> = sheets.iter().flat_map(|s| [FLOW, LIVE, REWRITE, ELIMINATE, LABELS].map(|op| (op, *s))).collect();
+        let mut all: Vec<Vec<Answer>> = pump(&mut self.oracle, &requests).chunks(5).map(<[_]>::to_vec).collect();
         let other = |s: &[u8], a: &[Answer]| a[2].0 == 0 && a[2].1 != s;
         let again: Vec<(u8, &[u8])> = sheets.iter().zip(&all).filter(|(s, a)| other(s, a)).map(|(_, a)| (ELIMINATE, &a[2].1[..])).collect();
         let mut again = pump(&mut self.oracle, &again).into_iter();

@@ -6,6 +6,7 @@ mod flow;
 mod graphs;
 mod help;
 mod input;
+mod label;
 mod list;
 mod mark;
 mod output;
@@ -36,6 +37,7 @@ const COMMANDS: &[&Command] = &[
     &flow::COMMAND,
     &rewrite::COMMAND,
     &renumber::COMMAND,
+    &label::COMMAND,
     &check::COMMAND,
     &assemble::COMMAND,
     &list::COMMAND,
