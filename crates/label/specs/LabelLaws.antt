@@ -15,49 +15,43 @@ use Rattle.base.specs.SearchLaws.{bad-lt, bad-fails}
 use Rattle.base.specs.GrowLaws.{has-append}
 use Rattle.base.specs.ListLaws.{by-test, has-in, in-has, gather-in, getD-in}
 use Rattle.base.specs.Refusals.{Accepted, Refused, foundOf, Done, resultOf}
-use Rattle.base.specs.RefusalLaws.{passed, found-at, found-none}
+use Rattle.base.specs.RefusalLaws.{found-at, found-none}
 use Rattle.base.specs.declared.Found.the-variants.{At, Nothing}
 use Rattle.base.specs.ReplyLaws.{reply-refused, reply-done}
 use Rattle.stackless_bytecode.specs.declared.Bytecode.{Bytecode}
 use Rattle.stackless_bytecode.specs.declared.Lookup.{Lookup}
 use Rattle.stackless_bytecode.specs.declared.Lookup.the-variants.{Named, Unnamed, Undefined}
-use Rattle.stackless_bytecode.specs.Kinds.{Branch, Jump, Label, nop, at, isFlagged, branchDests, labelOf}
-use Rattle.stackless_bytecode.specs.KindLaws.{label-one}
+use Rattle.stackless_bytecode.specs.Kinds.{Label, nop, at, branchDests, labelOf}
+use Rattle.stackless_bytecode.specs.KindLaws.{by-dests, one-label, other-label, label-one}
 use Rattle.stackless_bytecode.specs.Slots.{noLabel}
 use Rattle.stackless_bytecode.specs.Labels.{lookup, wayOf, offsetOf, isDefined, labelOffset}
 use Rattle.stackless_bytecode.specs.LookupLaws.{lookup-found, lookup-missing, is-defined, defined, offset-is, named-by, named-at}
-use Rattle.sheet.specs.Layout.{countOf, localsOf, codeOf}
-use Rattle.sheet.specs.Checks.{checkForm, checkCode, checkSheet}
-use Rattle.sheet.specs.FormLaws.{form-shaped}
+use Rattle.sheet.specs.Layout.{codeOf}
+use Rattle.sheet.specs.Checks.{checkSheet}
 use Rattle.sheet.specs.Shaped.{Shaped, code-size}
 use Rattle.sheet.specs.CheckLaws.{code-sound}
 use Rattle.sheet.specs.ValidLaws.{accepted-valid}
-use Rattle.sheet_checks.specs.NameLaws.{code-below}
+use Rattle.sheet.specs.LabelLaws.{code-below}
 use Rattle.label.specs.LabelCall.{labelValue, labelReply, wayIn, offsetIn, LabelMeaning}
 
 -- ---- one instruction
 
 -- the Label with a number
 pub label-has : (r : Bytecode) (l : ℕ) → eqb (r .kind) Label ≡ true → eqb l (r .one) ≡ has l (labelOf r)
-unfolding labelOf has
-label-has r l e = sym (ap (λ (b : Bool). has l (cond b (r .one ∷ []) [])) e ∙ or-false (eqb l (r .one)))
+unfolding has
+label-has r l e = sym (ap (has l) (one-label r e) ∙ or-false (eqb l (r .one)))
 
 pub other-has : (r : Bytecode) (l : ℕ) → eqb (r .kind) Label ≡ false → false ≡ has l (labelOf r)
-unfolding labelOf has
-other-has r l e = sym (ap (λ (b : Bool). has l (cond b (r .one ∷ []) [])) e)
+unfolding has
+other-has r l e = sym (ap (has l) (other-label r e))
 
 -- the labels that an instruction names are those of its two slots
 pub names-has : (r : Bytecode) (l : ℕ) → l < noLabel → eqb l (getD (branchDests r) 0 noLabel) || eqb l (getD (branchDests r) 1 noLabel) ≡ has l (branchDests r)
-unfolding branchDests has
-names-has r l h = go (eqb (r .kind) Branch) (eqb (r .kind) Jump || isFlagged r) (r .one) (r .two)
-  where
-    none : eqb l noLabel ≡ false
-    none = ne-eqb l noLabel (λ e. omega arith)
-
-    go : (b t : Bool) (x y : ℕ) → eqb l (getD (cond b (x ∷ y ∷ []) (cond t (x ∷ []) [])) 0 noLabel) || eqb l (getD (cond b (x ∷ y ∷ []) (cond t (x ∷ []) [])) 1 noLabel) ≡ has l (cond b (x ∷ y ∷ []) (cond t (x ∷ []) []))
-    go true t x y = ap (λ (b : Bool). eqb l x || b) (sym (or-false (eqb l y)))
-    go false true x y = ap (λ (b : Bool). eqb l x || b) none
-    go false false x y = ap (λ (b : Bool). b || b) none
+unfolding has
+names-has r l h =
+    let none : eqb l noLabel ≡ false = ne-eqb l noLabel (λ e. omega arith) in
+    by-dests (λ xs. eqb l (getD xs 0 noLabel) || eqb l (getD xs 1 noLabel) ≡ has l xs) r
+    (ap (λ (b : Bool). eqb l (r .one) || b) (sym (or-false (eqb l (r .two))))) (ap (λ (b : Bool). eqb l (r .one) || b) none) (ap (λ (b : Bool). b || b) none)
 
 -- ---- one instruction a turn
 
@@ -126,10 +120,6 @@ undefined-offset (Unnamed o) e = absurd (true≢false e)
 undefined-offset Undefined e = refl
 
 -- ---- the meaning, in an accepted sheet
-
-pub accepted-shaped : (s : List ℕ) (n : ℕ) → checkSheet s ≡ Accepted → n ≡ countOf s → Shaped s n
-unfolding checkSheet
-accepted-shaped s n e q = form-shaped s n q (passed (checkForm s) (checkCode (localsOf s) (codeOf s)) e .first)
 
 module _ (s : List ℕ) (accepted : checkSheet s ≡ Accepted) (l : ℕ) where
   few : length (codeOf s) ≤ maxInstructions

@@ -1,8 +1,7 @@
 -- The bytes of an accepted sheet's live sets have term 3. Assumes nothing.
 use mathlib.Core.Path.{_≡_, refl, sym, ap, ap₂, _∙_, subst}
-use mathlib.Core.Bool.{true≢false}
 use mathlib.Core.List.{List, [], _∷_, _++_, map, List·Memᴰ, List·Memᴰ·head, List·Memᴰ·tail}
-use Prim.Native.Nat.{ℕ, suc, _-_, _*_, _≤_, _<_}
+use Prim.Native.Nat.{ℕ, _*_, _≤_, _<_}
 use native.Mathlib.Nat.{zero-add}
 use native.Mathlib.Omega.{arith}
 use lib.ListN.{getD, length, length-append}
@@ -12,17 +11,17 @@ use Rattle.dataflow_domains.specs.ByteLaws.{bytes-length}
 use Rattle.base.specs.PartLaws.{gather-length}
 use Rattle.base.specs.Refusals.{Accepted, Refused, Reply, No, Done, lends}
 use Rattle.base.specs.ReplyLaws.{call-refused, call-short, call-done}
-use Rattle.base.specs.ListLaws.{by-eq, getD-tab}
+use Rattle.base.specs.ListLaws.{getD-tab}
 use Rattle.dataflow_domains.specs.Mask.{bit, unions}
 use Rattle.dataflow_domains.specs.MaskLaws.{sub-at}
 use Rattle.stackless_bytecode.specs.declared.Bytecode.{Bytecode}
-use Rattle.stackless_bytecode.specs.Kinds.{at, fallsThrough}
+use Rattle.stackless_bytecode.specs.Kinds.{at}
 use Rattle.stackless_bytecode.specs.Successors.{successors}
-use Rattle.stackless_bytecode.specs.SuccessorLaws.{NextOffset, named, on, in-succs}
 use Rattle.stackless_bytecode.specs.Sound.{Sound}
 use Rattle.sheet.specs.Layout.{codeOf, localsOf}
 use Rattle.sheet.specs.Checks.{checkSheet}
 use Rattle.sheet.specs.CheckLaws.{code-sound}
+use Rattle.stackless_control_flow_graph.specs.StartLaws.{succs-within}
 use Rattle.livevar_analysis.specs.Live.{execute, Obeys}
 use Rattle.livevar_analysis.specs.Analysis.{LiveVarInfo, noInfo, analyze, liveBytes, liveReply, infoIn, infosOf}
 use Rattle.livevar_analysis.specs.Term3Laws.{term3}
@@ -32,24 +31,13 @@ use Rattle.livevar_analysis.specs.LiveCall.{beforeAt, afterAt, LeastLive
 
 -- ---- sets that agree at every offset obey alike
 
--- a successor is an offset of the code
-succ-inside : (code : List Bytecode) → Sound code → (k o : ℕ) → k < length code → List·Memᴰ o (successors code k) → o < length code
-succ-inside code sound k o h i = go (in-succs code k o i)
-  where
-    go : NextOffset code k o → o < length code
-    go (named l j e) = subst (λ (x : ℕ). x < length code) (sym e) (sound .named k l h j .inside)
-    go (on f e) =
-        by-eq (suc k) (length code)
-        (λ q. let last : k ≡ length code - 1 = omega arith in absurd (true≢false (sym f ∙ ap (λ (x : ℕ). fallsThrough (at code x)) last ∙ sound .closed)))
-        (λ g. omega arith)
-
 map-same : (b c : ℕ → ℕ) (xs : List ℕ) → ((o : ℕ) → List·Memᴰ o xs → b o ≡ c o) → map b xs ≡ map c xs
 map-same b c [] h = refl
 map-same b c (x ∷ xs) h = ap₂ (λ (y : ℕ) (ys : List ℕ). y ∷ ys) (h x (List·Memᴰ·head refl)) (map-same b c xs (λ o i. h o (List·Memᴰ·tail i)))
 
 obeys-same : (code : List Bytecode) → Sound code → (b a c d : ℕ → ℕ) → ((k : ℕ) → k < length code → b k ≡ c k) → ((k : ℕ) → k < length code → a k ≡ d k) → Obeys code c d → Obeys code b a
 obeys-same code sound b a c d eb ea ob = record {
-  after = λ k h. ea k h ∙ ob .after k h ∙ ap unions (sym (map-same b c (successors code k) (λ o i. eb o (succ-inside code sound k o h i))));
+  after = λ k h. ea k h ∙ ob .after k h ∙ ap unions (sym (map-same b c (successors code k) (λ o i. eb o (succs-within code sound k h .each o i))));
   before = λ k h. eb k h ∙ ob .before k h ∙ ap (execute (at code k)) (sym (ea k h));
 }
 

@@ -28,8 +28,8 @@ use Rattle.livevar_transform.specs.Rewrite.{infoAt, targetOf, lostRefs}
 use Rattle.base.specs.JoinLaws.{by-lt}
 use Rattle.dataflow_domains.specs.Sets.{storedSet, Stored}
 use Rattle.livevar_transform.specs.Plan.{Ready, sidesAt, fateOf, lostBy, EdgeRoom, BothLost, lostAt, Planned}
-use Rattle.sheet_checks.specs.NameLaws.{code-below}
-use Rattle.stackless_control_flow_graph.specs.CheckedSheetLaws.{accepted-shaped}
+use Rattle.sheet.specs.LabelLaws.{code-below}
+use Rattle.sheet.specs.FormLaws.{accepted-shaped}
 use lib.Seq.{getD-set-same, getD-set-other}
 use Rattle.dataflow_domains.specs.StoredLaws.{stored-here, stored-other}
 use Rattle.livevar_transform.specs.PlanLaws.{sides-are, size, here, long, room-at}
@@ -115,7 +115,7 @@ module _ {s targets info : List ℕ} {n : ℕ} (h : Ready s targets info n) wher
 -- the labels of an instruction of a sheet of bytes are numbers of two bytes
 low-labels : {s targets info : List ℕ} {n : ℕ} (h : Ready s targets info n) → ((i : ℕ) → getD s i 0 < 256) → (k : ℕ) (r : Bytecode) → k < n → r ≡ instructionAt s k → (r .one < noLabel) × (r .two < noLabel)
 low-labels {s} h bytes k r l q =
-    let b = code-below (accepted-shaped s (h .known .accepted)) bytes k (omega (arith, h .known .count)) in
+    let b = code-below (accepted-shaped s _ (h .known .count) (h .known .accepted)) bytes k l in
     let is = here (h .known) k l ∙ sym q in
     (omega (arith, b .one, ap (λ (x : Bytecode). x .one) is), omega (arith, b .two, ap (λ (x : Bytecode). x .two) is))
 

@@ -1,6 +1,6 @@
 -- The Labels that nobody names: the marks slot by slot, and the line as the code writes it. Assumes nothing.
 use mathlib.Core.Path.{_≡_, refl, sym, ap, ap₂, _∙_, subst}
-use mathlib.Core.Bool.{Bool, true, false, cond, not, _||_, _&&_, true≢false}
+use mathlib.Core.Bool.{Bool, true, false, cond, not, _&&_, true≢false}
 use mathlib.Core.List.{List, [], _∷_, _++_, append-nil, List·Memᴰ, List·Memᴰ·head, List·Memᴰ·not-nil, List·Memᴰ·eq-of-singleton, List·Memᴰ·cases-cons}
 use mathlib.Core.Logic.{⊎-elim}
 use Prim.Native.Nat.{ℕ, _+_, _*_, _/_, _%_, _≤_, _<_}
@@ -15,8 +15,8 @@ use Rattle.base.specs.GrowLaws.{gather-append, gather-more}
 use Rattle.base.specs.Bytes.{Bytes}
 use Rattle.stackless_bytecode.specs.declared.Bytecode.{Bytecode}
 use Rattle.stackless_bytecode.specs.declared.Lookup.the-variants.{Named}
-use Rattle.stackless_bytecode.specs.Kinds.{Label, Branch, Jump, nop, at, isFlagged, branchDests, labelOf}
-use Rattle.stackless_bytecode.specs.KindLaws.{label-one}
+use Rattle.stackless_bytecode.specs.Kinds.{Label, nop, at, branchDests, labelOf}
+use Rattle.stackless_bytecode.specs.KindLaws.{by-dests, label-one}
 use Rattle.stackless_bytecode.specs.Labels.{lookup, offsetOf, isNamed, isDefined, labelOffset}
 use Rattle.stackless_bytecode.specs.LookupLaws.{named-by, offset-is, defined}
 use Rattle.stackless_bytecode.specs.Slots.{noLabel, slotAt, Resolved}
@@ -24,7 +24,7 @@ use Rattle.stackless_bytecode.specs.SlotLaws.{LabelsBelow, slot-names}
 use Rattle.stackless_bytecode.specs.Successors.{Unique}
 use Rattle.sheet.specs.Layout.{instructionAt, codeOf}
 use Rattle.sheet.specs.Shaped.{Shaped, code-size, code-at}
-use Rattle.sheet_writer.specs.BodyLaws.{accepted-body}
+use Rattle.sheet.specs.LabelLaws.{slot-is, code-below}
 use Rattle.stackless_control_flow_graph.specs.Arrays.{CheckedSheet}
 use Rattle.stackless_control_flow_graph.specs.CheckedSheetLaws.{checked-shaped, checked-once, checked-size}
 use Rattle.listing.specs.Words.{ascii, said, decimal}
@@ -34,22 +34,13 @@ use Rattle.pages.specs.Marks.{markName, MarkedTo, NamedMarks, isUnmarked
 -- ---- what one instruction names
 
 dests-below : (r : Bytecode) (l : ℕ) → LabelsBelow r → List·Memᴰ l (branchDests r) → l < noLabel
-unfolding branchDests
-dests-below r l below i = go (eqb (r .kind) Branch) (eqb (r .kind) Jump || isFlagged r) i
-  where
-    go : (b t : Bool) → List·Memᴰ l (cond b (r .one ∷ r .two ∷ []) (cond t (r .one ∷ []) [])) → l < noLabel
-    go true t m = ⊎-elim (λ e. omega (arith, below .one)) (λ n. omega (arith, below .two, List·Memᴰ·eq-of-singleton n)) (List·Memᴰ·cases-cons m)
-    go false true m = omega (arith, below .one, List·Memᴰ·eq-of-singleton m)
-    go false false m = absurd (List·Memᴰ·not-nil m)
+dests-below r l below =
+    by-dests (λ xs. List·Memᴰ l xs → l < noLabel) r
+    (λ m. ⊎-elim (λ e. omega (arith, below .one)) (λ n. omega (arith, below .two, List·Memᴰ·eq-of-singleton n)) (List·Memᴰ·cases-cons m))
+    (λ m. omega (arith, below .one, List·Memᴰ·eq-of-singleton m)) (λ m. absurd (List·Memᴰ·not-nil m))
 
 dests-few : (r : Bytecode) → length (branchDests r) ≤ 2
-unfolding branchDests
-dests-few r = go (eqb (r .kind) Branch) (eqb (r .kind) Jump || isFlagged r)
-  where
-    go : (b t : Bool) → length (cond b (r .one ∷ r .two ∷ []) (cond t (r .one ∷ []) [])) ≤ 2
-    go true t = omega arith
-    go false true = omega arith
-    go false false = omega arith
+dests-few r = by-dests (λ xs. length xs ≤ 2) r (omega arith) (omega arith) (omega arith)
 
 -- ---- marks, slot by slot
 
@@ -132,21 +123,20 @@ marks-none code targets marks z = record { sound = λ o t. absurd (omega (arith,
 
 module _ {s : List ℕ} {n : ℕ} {targets : List ℕ} (g : CheckedSheet s n targets) (bytes : Bytes s) where
   below : (k : ℕ) → k < length (codeOf s) → LabelsBelow (at (codeOf s) k)
-  below k h = let e = accepted-body s bytes (g .accepted) .encodes k h in record { one = omega (arith, e .one); two = omega (arith, e .two) }
+  below k h = code-below (checked-shaped g) (bytes .each) k (omega (arith, checked-size g))
 
   -- what is read of slot e
   module _ (e : ℕ) (h : e < 2 * n) {r : Bytecode} (read : r ≡ instructionAt s (e / 2)) {l : ℕ} (name : l ≡ getD (branchDests r) (e % 2) noLabel) where
-    slot-is : slotAt (codeOf s) e ≡ l
-    unfolding slotAt
-    slot-is = ap (λ (x : Bytecode). getD (branchDests x) (e % 2) noLabel) (code-at (checked-shaped g) (e / 2) (omega arith) ∙ sym read) ∙ sym name
+    slot : slotAt (codeOf s) e ≡ l
+    slot = slot-is (checked-shaped g) e h read name
 
     pub mark-inside : {o : ℕ} → o ≡ getD targets e 0 → (l ≡ noLabel → ⊥) → o < n
-    mark-inside place q = omega (arith, place, checked-size g, target-inside (codeOf s) below targets (g .resolved) e (omega (arith, checked-size g)) (λ t. q (sym slot-is ∙ t)))
+    mark-inside place q = omega (arith, place, checked-size g, target-inside (codeOf s) below targets (g .resolved) e (omega (arith, checked-size g)) (λ t. q (sym slot ∙ t)))
 
     pub mark-more : {o : ℕ} → o ≡ getD targets e 0 → {marks marks′ : List ℕ} → n ≤ length marks → marks′ ≡ markName marks l o → MarkedTo (codeOf s) targets e marks → MarkedTo (codeOf s) targets (e + 1) marks′
     mark-more place {marks} room is m =
         subst (λ (x : List ℕ). MarkedTo (codeOf s) targets (e + 1) x) (sym (is ∙ ap (markName marks l) place))
-        (names-more (codeOf s) below targets (g .resolved) e l marks (omega (arith, checked-size g)) slot-is (omega (arith, checked-size g)) m)
+        (names-more (codeOf s) below targets (g .resolved) e l marks (omega (arith, checked-size g)) slot (omega (arith, checked-size g)) m)
 
   pub mark-end : {e : ℕ} {marks : List ℕ} → e ≡ 2 * n → MarkedTo (codeOf s) targets e marks → NamedMarks (codeOf s) marks
   mark-end {e} {marks} is m =

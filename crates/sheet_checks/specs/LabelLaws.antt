@@ -19,6 +19,7 @@ use Rattle.dataflow_domains.specs.MaskLaws.{bit-empty}
 use Rattle.dataflow_domains.specs.HoldsLaws.{false-holds, holds-union, holds-single}
 use Rattle.stackless_bytecode.specs.declared.Bytecode.{Bytecode}
 use Rattle.stackless_bytecode.specs.Kinds.{Label, nop, at, labelOf}
+use Rattle.stackless_bytecode.specs.KindLaws.{one-label, other-label}
 use Rattle.stackless_bytecode.specs.Slots.{labelPlaces}
 use Rattle.sheet.specs.Checks.{fresh}
 use Rattle.sheet_checks.specs.declared.labels.Labels.the-variants.{Count, Repeated}
@@ -69,15 +70,6 @@ seen-more {seen} {xs} s size l h = record { each = λ x k. by-eq (x / 64) (l / 6
         ∙ sym (ap (λ (b : Bool). has x xs || b) (ne-eqb x l (λ q. g (ap (λ (y : ℕ). y / 64) q))) ∙ or-end (has x xs))
 
 -- ---- the lists, one instruction more
-
--- the number of a Label, and of no other
-one-label : (r : Bytecode) → eqb (r .kind) Label ≡ true → labelOf r ≡ r .one ∷ []
-unfolding labelOf
-one-label r e = ap (λ (b : Bool). cond b (r .one ∷ []) []) e
-
-other-label : (r : Bytecode) → eqb (r .kind) Label ≡ false → labelOf r ≡ []
-unfolding labelOf
-other-label r e = ap (λ (b : Bool). cond b (r .one ∷ []) []) e
 
 pub labels-more : (code : List Bytecode) (k : ℕ) → k < length code → gather labelOf (take (k + 1) code) ≡ gather labelOf (take k code) ++ labelOf (at code k)
 labels-more code k h = gather-more labelOf code k nop h

@@ -3,14 +3,13 @@ use mathlib.Core.Path.{_≡_, refl, sym, ap, ap₂, _∙_, subst}
 use mathlib.Core.Bool.{Bool, true, false, cond, _||_, true≢false}
 use mathlib.Core.List.{List, _∷_, List·Memᴰ}
 use mathlib.Core.Option.{some}
-use Prim.Native.Nat.{ℕ, zero, suc, _+_, _-_, _*_, _/_, _%_, _≤_, _<_}
+use Prim.Native.Nat.{ℕ, zero, suc, _+_, _-_, _*_, _/_, _≤_, _<_}
 use native.Mathlib.Numerals.{add-one}
 use native.Mathlib.Omega.{arith}
 use borrow.Author.Tests.{eq-eqb, ne-eqb}
 use lib.Dec.{eqb}
 use lib.ListN.{getD, set, take, drop, length, length-set, drop-of-length-le}
-use lib.Seq.{drop-cons, getD-take, getD-drop, getD-set-same, getD-set-other}
-use Rattle.base.specs.Sizes.{recordBytes}
+use lib.Seq.{drop-cons, getD-set-same, getD-set-other}
 use Rattle.base.specs.Lists.{gather, has, place, firstBad}
 use Rattle.base.specs.ListLaws.{by-eq, or-false, has-in}
 use Rattle.base.specs.SearchLaws.{bad-start, bad-more, bad-stop, bad-end}
@@ -22,8 +21,6 @@ use Rattle.stackless_bytecode.specs.LookupLaws.{is-defined, defined, named-at}
 use Rattle.stackless_bytecode.specs.Slots.{noLabel, slotAt, named, halved}
 use Rattle.stackless_bytecode.specs.SlotLaws.{LabelsBelow, slot-names, slots-first, offset-place, places-length}
 use Rattle.base.specs.declared.Found.the-variants.{At, Nothing}
-use Rattle.sheet.specs.Layout.{recordStart, decode, instructionAt, codeOf}
-use Rattle.sheet.specs.Shaped.{Shaped, code-at}
 use Rattle.base.specs.Refusals.{foundOf}
 use Rattle.sheet.specs.Checks.{namesOk}
 use Rattle.sheet_checks.specs.Labelled.{LabelLists, Search, Named}
@@ -149,24 +146,8 @@ module _ {code : List Bytecode} {n : ℕ} {targets₀ targets : List ℕ} {e : �
     pub slots-missing : has l (gather labelOf code) ≡ false → firstBad (2 * n) 0 (λ d. named (λ l. isDefined (lookup code l)) (slotAt code d)) ≡ some e
     slots-missing q = s .first ∙ bad-stop (2 * n) e _ inside (named-is ∙ q)
 
--- the slot of the instruction that is read
-pub slot-is : {s : List ℕ} {n : ℕ} → Shaped s n → (e : ℕ) → e < 2 * n → {r : Bytecode} {l : ℕ} → r ≡ instructionAt s (e / 2) → l ≡ getD (branchDests r) (e % 2) noLabel → slotAt (codeOf s) e ≡ l
-unfolding slotAt
-slot-is h e k p q = ap (λ (x : Bytecode). getD (branchDests x) (e % 2) noLabel) (code-at h (e / 2) (omega arith) ∙ sym p) ∙ sym q
-
 pub listed-length : {code : List Bytecode} {labels places : List ℕ} → LabelLists code labels places → length places ≡ length labels
 listed-length {code} h = ap length (h .offsets) ∙ places-length code ∙ sym (ap length (h .names))
-
--- a label number of a sheet's bytes is below noLabel
-pub bytes-below : (s : List ℕ) → ((i : ℕ) → getD s i 0 < 256) → (k : ℕ) → LabelsBelow (instructionAt s k)
-unfolding instructionAt decode
-bytes-below s small k = record { one = omega (arith, byte 4 (omega arith), byte 5 (omega arith)); two = omega (arith, byte 6 (omega arith), byte 7 (omega arith)) }
-  where
-    byte : (i : ℕ) → i < recordBytes → getD (take recordBytes (drop (recordStart k) s)) i 0 < 256
-    byte i h = let e = getD-take recordBytes (drop (recordStart k) s) i 0 h ∙ getD-drop (recordStart k) s i 0 in omega (arith, small (recordStart k + i))
-
-pub code-below : {s : List ℕ} {n : ℕ} → Shaped s n → ((i : ℕ) → getD s i 0 < 256) → (k : ℕ) → k < n → LabelsBelow (at (codeOf s) k)
-code-below {s} h small k l = rw (code-at h k l) (bytes-below s small k)
 
 -- ---- the answer
 

@@ -5,6 +5,7 @@ use mathlib.Core.List.{List, List·Memᴰ}
 use mathlib.Core.Option.{Option, none, some}
 use Prim.Native.Nat.{ℕ, _<_}
 use native.Mathlib.Omega.{arith}
+use borrow.Author.Tests.{not-false}
 use lib.ListN.{length}
 use Rattle.base.specs.Lists.{gather, has, firstBad}
 use Rattle.base.specs.ListLaws.{by-test, has-in, in-has, gather-in, in-gather, getD-in, in-getD}
@@ -42,10 +43,6 @@ module _ (code : List Bytecode) (l : ℕ) where
   pub looked : Looked
   looked = by (firstBad (length code) 0 others) refl
     where
-      not-false : (b : Bool) → not b ≡ false → b ≡ true
-      not-false true e = refl
-      not-false false e = absurd (true≢false e)
-
       by : (x : Option ℕ) → firstBad (length code) 0 others ≡ x → Looked
       by none e =
           missing (λ k h i. true≢false (sym (none-all (length code) 0 others e k (omega arith) (omega arith)) ∙ ap not (in-has l (labelOf (at code k)) i))) (lookup-missing e)

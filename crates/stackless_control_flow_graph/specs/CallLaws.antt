@@ -17,11 +17,12 @@ use Rattle.stackless_bytecode.specs.Slots.{Resolved}
 use Rattle.sheet.specs.Layout.{countOf, codeOf}
 use Rattle.sheet.specs.Checks.{checkSheet}
 use Rattle.sheet.specs.CheckLaws.{code-sound}
+use Rattle.sheet.specs.FormLaws.{accepted-shaped}
 use Rattle.stackless_control_flow_graph.specs.Blocks.{lowers, blocksOf, upperOf, keyed, keyOf, succKeys, row, flowTable, flowReply}
 use Rattle.stackless_control_flow_graph.specs.BlockLaws.{upper-lt}
 use Rattle.stackless_control_flow_graph.specs.Arrays.{BlocksFound, Numbered, withExit, rowIn, HasRecord, CheckedSheet}
 use Rattle.base.specs.GrowLaws.{below-few}
-use Rattle.stackless_control_flow_graph.specs.CheckedSheetLaws.{accepted-shaped, accepted-few, accepted-at, accepted-has}
+use Rattle.stackless_control_flow_graph.specs.CheckedSheetLaws.{accepted-few, accepted-at, accepted-has}
 use Rattle.stackless_control_flow_graph.specs.RowLaws.{exit-length}
 use Rattle.stackless_control_flow_graph.specs.FlowLaws.{in-lowers, lowers-distinct, block-start, block-upper, cut-rows}
 
@@ -78,4 +79,4 @@ module _ (s : List ℕ) (accepted : checkSheet s ≡ Accepted) (m : ℕ) (goes l
 
 pub into-checked : (s : List ℕ) (n : ℕ) (targets : List ℕ) → checkSheet s ≡ Accepted → n ≡ u16At s 4 → Resolved (codeOf s) targets → length targets ≡ 2 * maxInstructions → CheckedSheet s n targets
 unfolding countOf
-into-checked s n targets e c r size = record { accepted = e; count = c; resolved = r; slots = omega (arith, accepted-shaped s e .few) }
+into-checked s n targets e c r size = record { accepted = e; count = c; resolved = r; slots = omega (arith, accepted-shaped s n c e .few) }

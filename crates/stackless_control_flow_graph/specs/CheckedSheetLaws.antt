@@ -1,27 +1,24 @@
 -- What an accepted sheet gives the flow. Assumes nothing.
 use mathlib.Core.Path.{_≡_, refl, sym, ap, ap₂, _∙_, subst}
-use mathlib.Core.Bool.{Bool, true, false, cond}
+use mathlib.Core.Bool.{true, false}
 use mathlib.Core.List.{List, _∷_, List·Memᴰ}
 use Prim.Native.Nat.{ℕ, _+_, _*_, _<_, _≤_}
 use native.Mathlib.Omega.{arith}
-use borrow.Author.Tests.{lt-ltb}
-use lib.Dec.{ltb}
 use lib.ListN.{getD, set, length}
 use lib.Seq.{getD-set-same, getD-set-other}
 use Rattle.base.specs.Sizes.{maxInstructions}
-use Rattle.base.specs.Lists.{zeros}
 use Rattle.base.specs.Refusals.{Accepted}
 use Rattle.base.specs.ListLaws.{by-eq}
-use Rattle.base.specs.SearchLaws.{none-all}
 use Rattle.stackless_bytecode.specs.declared.Bytecode.{Bytecode}
 use Rattle.stackless_bytecode.specs.Kinds.{at, isBranch}
 use Rattle.stackless_bytecode.specs.Successors.{Unique, successors}
 use Rattle.stackless_bytecode.specs.Sound.{Sound}
 use Rattle.stackless_bytecode.specs.SlotLaws.{LabelsBelow}
-use Rattle.sheet.specs.Layout.{countOf, recordBlocks, recordAt, decode, instructionAt, codeOf}
-use Rattle.sheet.specs.Checks.{recordOk, placeOk, checkSheet}
-use Rattle.sheet.specs.CheckLaws.{clear, code-sound}
+use Rattle.sheet.specs.Layout.{countOf, instructionAt, codeOf}
+use Rattle.sheet.specs.Checks.{checkSheet}
+use Rattle.sheet.specs.CheckLaws.{code-sound}
 use Rattle.sheet.specs.Shaped.{Shaped, code-size, code-at, record-inside}
+use Rattle.sheet.specs.FormLaws.{accepted-shaped}
 use Rattle.sheet.specs.ValidLaws.{accepted-valid}
 use Rattle.stackless_control_flow_graph.specs.declared.Successors.{Successors}
 use Rattle.stackless_control_flow_graph.specs.Blocks.{starts}
@@ -31,34 +28,23 @@ use Rattle.stackless_control_flow_graph.specs.StartLaws.{resolved-succs,
 -- ---- an accepted sheet
 
 module _ (s : List ℕ) (accepted : checkSheet s ≡ Accepted) where
-  within : (k : ℕ) → k < countOf s → k < 15 * recordBlocks (countOf s)
-  within k h = unfold recordBlocks in omega arith
-
-  placed : (k : ℕ) → k < countOf s → cond (ltb k (countOf s)) (recordOk (decode (recordAt s k))) (zeros (recordAt s k)) ≡ true
-  placed k h = unfold placeOk in none-all (15 * recordBlocks (countOf s)) 0 (placeOk s) (clear s accepted .four) k (omega arith) (omega (arith, within k h))
-
-  fits : (k : ℕ) → k < countOf s → recordOk (decode (recordAt s k)) ≡ true
-  fits k h = sym (ap (λ (b : Bool). cond b (recordOk (decode (recordAt s k))) (zeros (recordAt s k))) (lt-ltb k (countOf s) h)) ∙ placed k h
-
-  pub accepted-shaped : Shaped s (countOf s)
-  accepted-shaped =
-      let v = accepted-valid s accepted in
-      record { count = refl; some = v .some; few = v .few; size = v .size; each = λ k h. unfold instructionAt in fits k h }
+  shaped : Shaped s (countOf s)
+  shaped = accepted-shaped s (countOf s) refl accepted
 
   pub accepted-few : length (codeOf s) ≤ maxInstructions
-  accepted-few = omega (arith, code-size accepted-shaped, accepted-shaped .few)
+  accepted-few = omega (arith, code-size shaped, shaped .few)
 
   pub accepted-at : (k : ℕ) → k < length (codeOf s) → at (codeOf s) k ≡ instructionAt s k
-  accepted-at k h = code-at accepted-shaped k (omega (arith, code-size accepted-shaped))
+  accepted-at k h = code-at shaped k (omega (arith, code-size shaped))
 
   pub accepted-has : (k : ℕ) → k < length (codeOf s) → HasRecord s k
-  accepted-has k h = record { ends = record-inside accepted-shaped k (omega (arith, code-size accepted-shaped)); few = omega (arith, accepted-few) }
+  accepted-has k h = record { ends = record-inside shaped k (omega (arith, code-size shaped)); few = omega (arith, accepted-few) }
 
 -- ---- and the offsets of its labels
 
 module _ {s : List ℕ} {n : ℕ} {targets : List ℕ} (g : CheckedSheet s n targets) where
   pub checked-shaped : Shaped s n
-  checked-shaped = subst (λ (x : ℕ). Shaped s x) (sym (g .count)) (accepted-shaped s (g .accepted))
+  checked-shaped = accepted-shaped s n (g .count) (g .accepted)
 
   pub checked-sound : Sound (codeOf s)
   checked-sound = code-sound s (g .accepted)

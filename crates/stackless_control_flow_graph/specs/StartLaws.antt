@@ -15,6 +15,7 @@ use Rattle.base.specs.ListLaws.{by-test, by-eq, or-true, in-any}
 use Rattle.stackless_bytecode.specs.declared.Bytecode.{Bytecode}
 use Rattle.stackless_bytecode.specs.Kinds.{at, isExit, isFlagged, isJump, isBranch, fallsThrough, branchDests, labelOf}
 use Rattle.stackless_bytecode.specs.Successors.{Unique, ascending, successors}
+use Rattle.stackless_bytecode.specs.KindLaws.{by-dests}
 use Rattle.stackless_bytecode.specs.Labels.{lookup, offsetOf, isNamed, labelOffset}
 use Rattle.stackless_bytecode.specs.LookupLaws.{named-by, offset-is}
 use Rattle.stackless_bytecode.specs.SuccessorLaws.{NextOffset, in-succs, succs-in}
@@ -72,13 +73,12 @@ mark-two m n (suc (suc c)) f s h g = ap (λ (l : List ℕ). markAll m (n ∷ f �
 
 -- ---- the successors of an offset, from the offsets of its labels
 
-names-at : (f : ℕ → ℕ) (b t : Bool) (x y one two : ℕ) → x < noLabel → y < noLabel
-    → (getD (cond b (x ∷ y ∷ []) (cond t (x ∷ []) [])) 0 noLabel < noLabel → one ≡ f (getD (cond b (x ∷ y ∷ []) (cond t (x ∷ []) [])) 0 noLabel))
-    → (getD (cond b (x ∷ y ∷ []) (cond t (x ∷ []) [])) 1 noLabel < noLabel → two ≡ f (getD (cond b (x ∷ y ∷ []) (cond t (x ∷ []) [])) 1 noLabel))
-    → take (length (cond b (x ∷ y ∷ []) (cond t (x ∷ []) []))) (one ∷ two ∷ []) ≡ map f (cond b (x ∷ y ∷ []) (cond t (x ∷ []) []))
-names-at f true t x y one two hx hy g h = ap₂ (λ (a b : ℕ). a ∷ b ∷ []) (g hx) (h hy)
-names-at f false true x y one two hx hy g h = ap (λ (a : ℕ). a ∷ []) (g hx)
-names-at f false false x y one two hx hy g h = refl
+names-at : (f : ℕ → ℕ) (r : Bytecode) (one two : ℕ) → LabelsBelow r
+    → (getD (branchDests r) 0 noLabel < noLabel → one ≡ f (getD (branchDests r) 0 noLabel)) → (getD (branchDests r) 1 noLabel < noLabel → two ≡ f (getD (branchDests r) 1 noLabel))
+    → take (length (branchDests r)) (one ∷ two ∷ []) ≡ map f (branchDests r)
+names-at f r one two below =
+    by-dests (λ xs. (getD xs 0 noLabel < noLabel → one ≡ f (getD xs 0 noLabel)) → (getD xs 1 noLabel < noLabel → two ≡ f (getD xs 1 noLabel)) → take (length xs) (one ∷ two ∷ []) ≡ map f xs) r
+    (λ g h. ap₂ (λ (a b : ℕ). a ∷ b ∷ []) (g (below .one)) (h (below .two))) (λ g h. ap (λ (a : ℕ). a ∷ []) (g (below .one))) (λ g h. refl)
 
 slot-one : (code : List Bytecode) (k : ℕ) → slotAt code (2 * k) ≡ getD (branchDests (at code k)) 0 noLabel
 unfolding slotAt
@@ -102,7 +102,7 @@ resolved-succs code ts k r h below =
   where
     named : take (length (branchDests (at code k))) (getD ts (2 * k) 0 ∷ getD ts (2 * k + 1) 0 ∷ []) ≡ map (labelOffset code) (branchDests (at code k))
     named =
-        unfold branchDests in names-at (labelOffset code) (eqb (at code k .kind) 4) (eqb (at code k .kind) 5 || isFlagged (at code k)) (at code k .one) (at code k .two) (getD ts (2 * k) 0) (getD ts (2 * k + 1) 0) (below .one) (below .two)
+        names-at (labelOffset code) (at code k) (getD ts (2 * k) 0) (getD ts (2 * k + 1) 0) below
         (λ l. sym (ap offsetOf (r .each (2 * k) (omega arith) (subst (λ (x : ℕ). x < noLabel) (sym (slot-one code k)) l))) ∙ ap (labelOffset code) (slot-one code k))
         (λ l. sym (ap offsetOf (r .each (2 * k + 1) (omega arith) (subst (λ (x : ℕ). x < noLabel) (sym (slot-two code k)) l))) ∙ ap (labelOffset code) (slot-two code k))
 

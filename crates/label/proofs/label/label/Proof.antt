@@ -6,10 +6,11 @@ use Rattle.base.specs.Refusals.{verdictOf}
 use Rattle.base.specs.RefusalLaws.{accepted-by}
 use Rattle.base.specs.ReplyLaws.{refused-number}
 use Rattle.sheet.specs.Layout.{countOf, codeOf}
+use Rattle.sheet.specs.FormLaws.{accepted-shaped}
 use Rattle.sheet.specs.ValidLaws.{accepted-valid}
 use Rattle.stackless_bytecode.specs.Labels.{offsetOf}
 use Rattle.label.specs.LabelCall.{labelValue, LabelMeaning}
-use Rattle.label.specs.LabelLaws.{accepted-shaped, offset-few, label-meaning, label-refused, label-done}
+use Rattle.label.specs.LabelLaws.{offset-few, label-meaning, label-refused, label-done}
 use borrow.Author.Needs.{needs}
 use Rattle.label.proofs.label.label.Statement.{statement}
 use Rattle.label.proofs.label.label.Tie as tie
@@ -18,7 +19,7 @@ u16-at-requires : tie.Need-u16-at-requires
 u16-at-requires c κs = omega (arith, accepted-valid _ (accepted-by _ (c .before .before .check .ensures) (c .enum-told .given .1)) .size)
 
 look-up-requires : tie.Need-look-up-requires
-look-up-requires c κs = accepted-shaped _ _ (accepted-by _ (c .before .before .before .check .ensures) (c .before .enum-told .given .1)) (unfold countOf in c .u16-at .ensures)
+look-up-requires c κs = accepted-shaped _ _ (unfold countOf in c .u16-at .ensures) (accepted-by _ (c .before .before .before .check .ensures) (c .before .enum-told .given .1))
 
 value-of-requires : tie.Need-value-of-requires
 value-of-requires c κs =

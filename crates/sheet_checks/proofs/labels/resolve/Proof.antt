@@ -6,8 +6,9 @@ use lib.ListN.{length}
 use Rattle.base.specs.Lists.{has}
 use Rattle.sheet.specs.Layout.{codeOf}
 use Rattle.sheet.specs.Shaped.{record-inside, code-size}
+use Rattle.sheet.specs.LabelLaws.{slot-is, code-below}
 use Rattle.sheet_checks.specs.Labelled.{Search}
-use Rattle.sheet_checks.specs.NameLaws.{search-more, search-end, Slots, slots-none, slots-skip, slots-found, slots-missing, slot-is, listed-length, code-below, named-missing, named-all}
+use Rattle.sheet_checks.specs.NameLaws.{search-more, search-end, Slots, slots-none, slots-skip, slots-found, slots-missing, listed-length, named-missing, named-all}
 use borrow.Author.Needs.{needs}
 use native.Mathlib.Omega.{arith}
 use Rattle.sheet_checks.proofs.labels.resolve.Statement.{statement}
