@@ -10,7 +10,7 @@ use Rattle.stackless_bytecode.specs.declared.Bytecode.{Bytecode}
 use Rattle.sheet.specs.Checks.{checkSheet}
 use Rattle.stackless_control_flow_graph.specs.FlowMeaning.{FlowMeaning}
 use Rattle.label.specs.LabelCall.{LabelMeaning}
-use Rattle.livevar_analysis.specs.LiveCall.{LeastLive, TakenUntilEmpty}
+use Rattle.livevar_analysis.specs.LiveCall.{TakenUntilEmpty}
 use Rattle.borrow_analysis.specs.Meaning.{Decides}
 use Rattle.c_api.specs.Packed.{checkReply}
 
@@ -19,8 +19,9 @@ of-result : (P : Result → Type 0) {x y : Result} → x ≡ y → (x .number �
 of-result P e h z = subst P e (h (ap (λ (r : Result). r .number) e ∙ z))
 
 module _ {x y : Result} (e : x ≡ y) where
-  pub least-of : {s out : List ℕ} → (x .number ≡ 0 → LeastLive s out) → y .number ≡ 0 → LeastLive s out
-  least-of {s} {out} = of-result (λ r. LeastLive s out) e
+  -- what does not speak of the result itself
+  pub means-of : {P : Type 0} → (x .number ≡ 0 → P) → y .number ≡ 0 → P
+  means-of {P} = of-result (λ r. P) e
 
   pub taken-of : {s : List ℕ} → (x .number ≡ 0 → TakenUntilEmpty s (x .value)) → y .number ≡ 0 → TakenUntilEmpty s (y .value)
   taken-of {s} = of-result (λ r. TakenUntilEmpty s (r .value)) e

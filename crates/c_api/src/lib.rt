@@ -9,6 +9,8 @@ ghost use Rattle.stackless_control_flow_graph.specs.FlowMeaning.{FlowMeaning};
 ghost use Rattle.label.specs.LabelCall.{labelReply, LabelMeaning};
 ghost use Rattle.livevar_analysis.specs.Analysis.{liveReply};
 ghost use Rattle.livevar_analysis.specs.LiveCall.{LeastLive, TakenUntilEmpty};
+ghost use Rattle.live_class.specs.ClassSet.{setsReply, answersReply};
+ghost use Rattle.live_class.specs.ClassMeaning.{ClassMeaning};
 ghost use Rattle.livevar_transform.specs.Rewrite.{rewriteReply};
 ghost use Rattle.livevar_transform.specs.RewriteAccepted.{AcceptedRewriting};
 ghost use Rattle.eliminate_unused_vars.specs.Renumber.{renumberReply};
@@ -72,6 +74,17 @@ pub extern "C" fn sorzibelu_live(sheet: &[u8], sets: &mut [u8]) -> u64
     ensures counted { λ _. ⌜ (resultOf (liveReply (now (sheet .entry)) (length (now (sets .entry)))) .number ≡ 0 → TakenUntilEmpty (now (sheet .entry)) (resultOf (liveReply (now (sheet .entry)) (length (now (sets .entry)))) .value)) ⌝ }
 {
     pack(live::analysis::live(sheet, sets))
+}
+
+// How many sheets a class set has, the sets of each at the front of its own bytes of `sets`, and its number, place and count in `answers`.
+#[no_mangle]
+pub extern "C" fn sorzibelu_live_class(sheets: &[u8], sets: &mut [u8], answers: &mut [u32]) -> u64
+    ensures result { λ r. ⌜ r ≡ packed (resultOf (setsReply (now (sheets .entry)) (now (sets .entry)) (length (now (answers .entry))))) ⌝ }
+    ensures written { λ _. ⌜ now (sets .exit) ≡ outputAfter (setsReply (now (sheets .entry)) (now (sets .entry)) (length (now (answers .entry)))) (now (sets .entry)) ⌝ }
+    ensures answered { λ _. ⌜ now (answers .exit) ≡ outputAfter (answersReply (now (sheets .entry)) (length (now (sets .entry))) (length (now (answers .entry)))) (now (answers .entry)) ⌝ }
+    ensures means { λ _. ⌜ (resultOf (setsReply (now (sheets .entry)) (now (sets .entry)) (length (now (answers .entry)))) .number ≡ 0 → ClassMeaning (now (sheets .entry)) (now (sets .entry)) (now (answers .entry)) (now (sets .exit)) (now (answers .exit))) ⌝ }
+{
+    pack(live_class::live_class::live_class(sheets, sets, answers))
 }
 
 // How many bytes the rewritten sheet has, and the sheet at the front of `out`.

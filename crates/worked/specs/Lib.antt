@@ -2,6 +2,7 @@
 pub mod Samples
 pub mod Worked
 pub mod Readings
+pub mod ClassReadings
 pub mod Pages
 -- What the inner contracts say.
 pub mod Opened

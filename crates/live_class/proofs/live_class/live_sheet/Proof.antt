@@ -1,0 +1,42 @@
+-- `live_class::live_sheet` meets its contract: what live leaves, and its answer in three numbers. Assumes nothing.
+use mathlib.Core.Path.{sym, ap, ap₂, _∙_}
+use mathlib.Core.List.{List, [], _∷_}
+use Prim.Native.Nat.{ℕ}
+use borrow.Author.Needs.{needs}
+use Rattle.base.specs.Refusals.{answerOf}
+use Rattle.base.specs.ReplyLaws.{refused-number}
+use Rattle.live_class.specs.ClassLaws.{numbers-accepted, numbers-refused}
+use Rattle.live_class.proofs.live_class.live_sheet.Statement.{statement}
+use Rattle.live_class.proofs.live_class.live_sheet.Tie as tie
+
+returns : tie.Need-returns
+returns c =
+    let e = c .before .before .before .before .before .before .before .before .before .live .ensures in
+    (e .1 .0, c .before .before .put-answer .ensures ∙ numbers-accepted (sym (ap answerOf (c .before .before .before .before .before .taken .given .1)) ∙ e .0))
+
+returns-2 : tie.Need-returns-2
+returns-2 c =
+    let e = c .before .before .before .before .before .before .before .before .before .before .before .before .before .live .ensures in
+    let number = c .before .before .before .before .before .u16-to-u32 .ensures .0 ∙ c .before .before .before .before .before .before .number .ensures in
+    let place = c .before .before .before .u16-to-u322 .ensures .0 ∙ c .before .before .before .before .place .ensures in
+    (e .1 .0, c .before .before .put-answer2 .ensures ∙ ap₂ (λ (n p : ℕ). n ∷ p ∷ 0 ∷ []) number place ∙ numbers-refused (refused-number (c .before .before .before .before .before .before .before .before .before .f .given .0 .0)) (sym (ap answerOf (c .before .before .before .before .before .before .before .before .before .f .given .1)) ∙ e .0))
+
+pub live-sheet-spec : {M : Type 1} → statement M
+live-sheet-spec =
+    tie.close
+    (tie.spec
+    (λ c κs. search needs)
+    (λ c. search needs)
+    (λ c κs. search needs)
+    (λ c. search needs)
+    (λ c κs. search needs)
+    (λ c κs. search needs)
+    (λ c κs. search needs)
+    (λ c κs. search needs)
+    (λ c κs. search needs)
+    (λ c. search needs)
+    (λ c. search needs)
+    returns
+    (λ c. search needs)
+    (λ c. search needs)
+    returns-2)
