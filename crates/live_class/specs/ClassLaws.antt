@@ -8,11 +8,10 @@ use native.Mathlib.Numerals.{add-one}
 use native.Mathlib.Omega.{arith}
 use borrow.Author.Tests.{eq-eqb, ne-eqb, le-leb, lt-leb, leb-true}
 use lib.Dec.{eqb, leb}
-use lib.ListN.{length, getD, take, drop, length-append, length-take, length-drop}
-use lib.Seq.{length-take-le}
+use lib.ListN.{length, take, drop, length-take, length-drop}
 use Rattle.base.specs.Sizes.{blockBytes, pairBytes, maxSheets, slotBytes, answerNumbers}
 use Rattle.base.specs.Lists.{joins}
-use Rattle.base.specs.Bytes.{part}
+use Rattle.base.specs.Bytes.{part, u16At}
 use Rattle.base.specs.JoinLaws.{joins-long, piece-rest, piece-more}
 use Rattle.base.specs.Refusals.{Verdict, Accepted, Refused, _then_, Reply, No, Done, Result, resultOf, outputAfter, lends}
 use Rattle.base.specs.RefusalLaws.{then-goes, then-stops, accepted-whole, refused-whole, passed, passed-whole, lends-short, lends-enough}
@@ -23,8 +22,8 @@ use Rattle.sheet.specs.Checks.{checkSheet}
 use Rattle.sheet.specs.ValidLaws.{accepted-valid}
 use Rattle.livevar_analysis.specs.Analysis.{analyze, liveBytes, liveReply}
 use Rattle.livevar_analysis.specs.LiveCallLaws.{live-refused, live-done, live-length}
-use Rattle.live_class.specs.CutLaws.{firstFrom, start-first, start-next, start-order, start-within, sheet-part}
-use Rattle.live_class.specs.ClassSet.{blocksIn, startsAt, sheetsIn, startOf, sheetAt, checkClass, aloneAt, slotAfter, numbersOf, setsReply, answersReply}
+use Rattle.live_class.specs.CutLaws.{firstFrom, start-first, start-next, sheet-part}
+use Rattle.live_class.specs.ClassSet.{startsAt, sheetsIn, startOf, sheetAt, checkClass, aloneAt, slotAfter, numbersOf, setsReply, answersReply}
 
 -- ---- the checks of the whole
 
@@ -41,6 +40,15 @@ no-length n e = ap (λ (b : Bool). b && eqb (n % blockBytes) 0) (lt-leb 1 n (ome
 
 pub good-length : (n : ℕ) → n ≢ 0 → n % blockBytes ≡ 0 → leb 1 n && eqb (n % blockBytes) 0 ≡ true
 good-length n h e = ap₂ _&&_ (le-leb 1 n (omega arith)) (eq-eqb _ _ e)
+
+-- 16
+pub first-zero : (s : List ℕ) {n : ℕ} → n ≡ u16At s 0 → n ≡ 0 → startsAt s 0 ≡ true
+unfolding startsAt
+first-zero s e z = eq-eqb (u16At s 0) 0 (sym e ∙ z)
+
+pub first-other : (s : List ℕ) {n : ℕ} → n ≡ u16At s 0 → n ≢ 0 → startsAt s 0 ≡ false
+unfolding startsAt
+first-other s e h = ne-eqb (u16At s 0) 0 (λ z. h (e ∙ z))
 
 module _ (s : List ℕ) (lent numbers : ℕ) where
   pub class-length : leb 1 (length s) && eqb (length s % blockBytes) 0 ≡ false → checkClass s lent numbers ≡ Refused 1 0
@@ -155,23 +163,16 @@ pub answered-none : (s sets answers : List ℕ) (start : ℕ) → start ≡ firs
 unfolding joins
 answered-none s sets answers start e = record { begins = e ∙ sym (start-first s); written = refl; numbered = refl }
 
--- where sheet k ends
-pub record Ends (s : List ℕ) (start next k : ℕ) : Type 0 where
-  pub is : next ≡ startOf s (suc k)
-  pub order : start < next
-  pub inside : next ≤ blocksIn s
-
-pub sheet-ends : (s : List ℕ) (start next k : ℕ) → k < sheetsIn s → start ≡ startOf s k → next ≡ firstFrom s (start + 1) → Ends s start next k
-sheet-ends s start next k h e q =
-    let is : next ≡ startOf s (suc k) = q ∙ ap (λ (b : ℕ). firstFrom s (b + 1)) e ∙ sym (start-next s k h) in
-    record { is = is; order = omega (arith, start-order s k h); inside = omega (arith, start-within s (suc k)) }
+-- where the next sheet starts
+pub next-is : (s : List ℕ) (start next k : ℕ) → k < sheetsIn s → start ≡ startOf s k → next ≡ firstFrom s (start + 1) → next ≡ startOf s (suc k)
+next-is s start next k h e q = q ∙ ap (λ (b : ℕ). firstFrom s (b + 1)) e ∙ sym (start-next s k h)
 
 -- so much of a slice is lent
 pub lent-long : (c k : ℕ) (xs : List ℕ) → c * k + c ≤ length xs → length (take (c * k + c - c * k) (drop (c * k) xs)) ≡ c
 lent-long c k xs h = length-take (c * k + c - c * k) (drop (c * k) xs) ∙ (omega (arith, length-drop (c * k) xs))
 
 module _ (s sets₀ answers₀ sets answers : List ℕ) (start next k : ℕ) (few : k < sheetsIn s) (room : slotBytes * sheetsIn s ≤ length sets₀)
-    (before : Answered s sets₀ answers₀ sets answers start k) (ends : Ends s start next k) where
+    (before : Answered s sets₀ answers₀ sets answers start k) (after : next ≡ startOf s (suc k)) where
   abbrev x : List ℕ
   x = part s (blockBytes * start) (blockBytes * next - blockBytes * start)
 
@@ -182,7 +183,7 @@ module _ (s sets₀ answers₀ sets answers : List ℕ) (start next k : ℕ) (fe
   slots j h = slot-long s sets₀ (sheetsIn s) room j (omega arith)
 
   x-is : x ≡ sheetAt s k
-  x-is = sheet-part s k start next (before .begins) (ends .is)
+  x-is = sheet-part s k start next (before .begins) after
 
   lent-is : lent ≡ part sets₀ (slotBytes * k) slotBytes
   lent-is =
@@ -199,7 +200,7 @@ module _ (s sets₀ answers₀ sets answers : List ℕ) (start next k : ℕ) (fe
   answered-more new numbers e q =
       let reply-is : liveReply x (length lent) ≡ aloneAt s k = ap₂ liveReply x-is lent-size in
       record {
-        begins = ends .is ∙ ap (startOf s) (sym (add-one k));
+        begins = after ∙ ap (startOf s) (sym (add-one k));
         written = piece-more slotBytes (slotAfter s sets₀) sets₀ k slots sets (before .written) new (e ∙ ap₂ outputAfter reply-is lent-is);
         numbered = piece-more answerNumbers (numbersAt s) answers₀ k (λ j h. numbers-long (resultOf (aloneAt s j))) answers (before .numbered) numbers (q ∙ ap (λ (r : Reply). numbersOf (resultOf r)) reply-is);
       }

@@ -7,7 +7,7 @@ use lib.ListN.{length, getD}
 use Rattle.base.specs.Sizes.{pairBytes, blockBytes, slotBytes, answerNumbers}
 use Rattle.base.specs.Lists.{joins}
 use Rattle.base.specs.Bytes.{part}
-use Rattle.base.specs.Refusals.{Accepted, Refused, Result, resultOf}
+use Rattle.base.specs.Refusals.{Accepted, Refused, resultOf, outputAfter}
 use Rattle.sheet.specs.Layout.{codeOf}
 use Rattle.sheet.specs.Checks.{checkSheet}
 use Rattle.livevar_analysis.specs.Analysis.{liveReply}
@@ -54,8 +54,10 @@ pub record AcceptedAt (x : List ℕ) (k : ℕ) (sets sets′ answers′ : List �
 
 pub record ClassMeaning (s sets answers sets′ answers′ : List ℕ) : Type 0 where
   -- each sheet's numbers are those that it gets alone, however many bytes are lent to it, if they are no fewer than its own; 9 is never among them
-  pub alone : (k lent : ℕ) → k < sheetsIn s → slotBytes ≤ lent → part answers′ (answerNumbers * k) answerNumbers ≡ numbersOf (resultOf (liveReply (sheetAt s k) lent))
+  pub alone-numbers : (k lent : ℕ) → k < sheetsIn s → slotBytes ≤ lent → part answers′ (answerNumbers * k) answerNumbers ≡ numbersOf (resultOf (liveReply (sheetAt s k) lent))
   pub never-short : (k : ℕ) → k < sheetsIn s → numberAt answers′ k ≡ 9 → ⊥
+  -- its bytes are what the call live alone leaves in them
+  pub alone-sets : (k : ℕ) → k < sheetsIn s → slotOf sets′ k ≡ outputAfter (liveReply (sheetAt s k) slotBytes) (slotOf sets k)
   -- each is refused or accepted by its own checks, whatever the others are
   pub refused : (k num place : ℕ) → k < sheetsIn s → checkSheet (sheetAt s k) ≡ Refused num place → RefusedAt num place k sets sets′ answers′
   pub accepted : (k : ℕ) → k < sheetsIn s → checkSheet (sheetAt s k) ≡ Accepted → AcceptedAt (sheetAt s k) k sets sets′ answers′

@@ -1,16 +1,16 @@
 -- What the outputs of a class set say of each sheet; the same sheet at the same place of two class sets. Assumes nothing.
-use mathlib.Core.Path.{_≡_, refl, sym, ap, ap₂, _∙_, subst}
+use mathlib.Core.Path.{_≡_, refl, sym, ap, _∙_, subst}
 use mathlib.Core.List.{List, [], _∷_, _++_}
 use Prim.Native.Nat.{ℕ, _+_, _*_, _≤_, _<_}
 use native.Mathlib.Nat.{add-zero}
 use native.Mathlib.Omega.{arith}
-use lib.ListN.{length, getD, take, drop, List·getD-append}
+use lib.ListN.{length, getD, drop, List·getD-append}
 use lib.Seq.{getD-take, getD-drop}
 use Rattle.base.specs.Sizes.{pairBytes, slotBytes, answerNumbers}
 use Rattle.base.specs.Lists.{joins}
 use Rattle.base.specs.Bytes.{part}
 use Rattle.base.specs.JoinLaws.{getD-rest, piece-at, piece-behind}
-use Rattle.base.specs.Refusals.{Accepted, Refused, Reply, No, resultOf, outputAfter}
+use Rattle.base.specs.Refusals.{Accepted, Refused, Reply, resultOf, outputAfter}
 use Rattle.base.specs.ReplyLaws.{done-result, done-output}
 use Rattle.sheet.specs.Layout.{codeOf, localsOf}
 use Rattle.sheet.specs.Checks.{checkSheet}
@@ -20,8 +20,8 @@ use Rattle.livevar_analysis.specs.LiveCall.{LeastLive, TakenUntilEmpty}
 use Rattle.livevar_analysis.specs.LiveCallLaws.{live-refused, live-length, least-live}
 use Rattle.livevar_analysis.specs.Term3Laws.{term3}
 use Rattle.live_class.specs.ClassSet.{sheetsIn, sheetAt, checkClass, aloneAt, slotAfter, numbersOf, setsReply, answersReply}
-use Rattle.live_class.specs.ClassMeaning.{numberAt, placeAt, countAt, slotOf, byteAt, RefusedAt, AcceptedAt, ClassMeaning, SameAnswer}
-use Rattle.live_class.specs.ClassLaws.{class-room, slot-enough, alone-done, by-checks, numbersAt, numbers-long, numbers-accepted, numbers-refused, slot-lent, slot-long, sets-done, answers-done, sets-long, answers-long}
+use Rattle.live_class.specs.ClassMeaning.{numberAt, slotOf, byteAt, RefusedAt, AcceptedAt, ClassMeaning, SameAnswer}
+use Rattle.live_class.specs.ClassLaws.{class-room, slot-enough, alone-done, by-checks, numbersAt, numbers-long, numbers-accepted, numbers-refused, slot-long, sets-done, answers-done, sets-long, answers-long}
 
 -- a sheet's reply does not depend on how much is lent, if it is no less than its own bytes
 alone-same : (x : List ℕ) (lent : ℕ) → slotBytes ≤ lent → liveReply x slotBytes ≡ liveReply x lent
@@ -118,8 +118,9 @@ module _ (s sets answers : List ℕ) (accepted : checkClass s (length sets) (len
 
   pub class-meaning : ClassMeaning s sets answers setsNow answersNow
   class-meaning = record {
-    alone = λ k lent h l. numbers-are k h ∙ ap (λ (r : Reply). numbersOf (resultOf r)) (alone-same (sheetAt s k) lent l);
+    alone-numbers = λ k lent h l. numbers-are k h ∙ ap (λ (r : Reply). numbersOf (resultOf r)) (alone-same (sheetAt s k) lent l);
     never-short = never-nine;
+    alone-sets = λ k h. slot-is k h ∙ (unfold slotAfter in refl);
     refused = λ k num place h e. refused-at k h num place e;
     accepted = λ k h e. accepted-at k h e;
     sets-behind = piece-behind slotBytes (slotAfter s sets) sets (sheetsIn s) slots;

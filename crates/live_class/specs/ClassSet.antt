@@ -3,7 +3,7 @@ use Prim.Native.Nat.{ℕ, suc, _-_, _*_, _/_, _%_}
 use mathlib.Core.Bool.{Bool, cond, _&&_}
 use mathlib.Core.List.{List, [], _∷_}
 use lib.Dec.{eqb, leb}
-use lib.ListN.{length, getD, take, drop}
+use lib.ListN.{length, getD}
 use Rattle.base.specs.Sizes.{blockBytes, maxSheets, slotBytes, answerNumbers}
 use Rattle.base.specs.Lists.{keep, joins}
 use Rattle.base.specs.Bytes.{part, u16At}

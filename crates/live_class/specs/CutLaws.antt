@@ -1,15 +1,14 @@
 -- Where the sheets of a class set start, as the loops find it, and that each is a part of it. Assumes nothing.
 use mathlib.Core.Path.{_≡_, sym, ap, ap₂, _∙_}
-use mathlib.Core.Bool.{Bool, true, false}
-use mathlib.Core.List.{List, [], _∷_}
-use Prim.Native.Nat.{ℕ, suc, _+_, _-_, _*_, _/_, _≤_, _<_}
+use mathlib.Core.Bool.{true, false}
+use mathlib.Core.List.{List, []}
+use Prim.Native.Nat.{ℕ, suc, _+_, _-_, _*_, _≤_, _<_}
 use native.Mathlib.Numerals.{add-one}
 use native.Mathlib.Omega.{arith}
-use lib.ListN.{length, getD, take, drop, length-take, length-drop, List·getD-eq-default}
+use lib.ListN.{length, getD}
 use Rattle.base.specs.Sizes.{blockBytes}
 use Rattle.base.specs.Lists.{keep}
 use Rattle.base.specs.Bytes.{part}
-use Rattle.base.specs.JoinLaws.{by-lt}
 use Rattle.base.specs.ListLaws.{Kept, in-keep, getD-in}
 use Rattle.base.specs.SearchLaws.{keep-here, keep-pass, keep-end, keep-next}
 use Rattle.live_class.specs.ClassSet.{blocksIn, startsAt, startsOf, sheetsIn, startOf, sheetAt}
@@ -51,13 +50,6 @@ module _ (s : List ℕ) where
   pub start-inside : (k : ℕ) → k < sheetsIn s → startOf s k < blocksIn s
   start-inside k h = omega (arith, kept-at k h .high)
 
-  -- a sheet starts at a block numbered 0
-  pub start-is : (k : ℕ) → k < sheetsIn s → startsAt s (startOf s k) ≡ true
-  start-is k h = kept-at k h .test
-
-  pub start-within : (k : ℕ) → startOf s k ≤ blocksIn s
-  start-within k = by-lt k (sheetsIn s) (λ h. omega (arith, start-inside k h)) (λ h. omega (arith, List·getD-eq-default (startsOf s) (blocksIn s) {n = k} h))
-
   pub start-first : startOf s 0 ≡ firstFrom 0
   start-first = ap (λ (l : List ℕ). getD l 0 (blocksIn s)) from-start
 
@@ -66,15 +58,6 @@ module _ (s : List ℕ) where
   start-next k h =
       let one : 0 + blocksIn s - suc (startOf s k) ≡ blocksIn s - (startOf s k + 1) = omega arith in
       keep-next (blocksIn s) 0 (blocksIn s) (startsAt s) k h ∙ ap₂ (λ (n j : ℕ). getD (keep n j (startsAt s)) 0 (blocksIn s)) one (sym (add-one (startOf s k)))
-
-  first-low : (b : ℕ) → b ≤ blocksIn s → b ≤ firstFrom b
-  first-low b h =
-      by-lt 0 (length (startsFrom b)) (λ l. in-keep (blocksIn s - b) b (firstFrom b) (startsAt s) (getD-in (startsFrom b) 0 (blocksIn s) l) .low)
-      (λ l. omega (arith, List·getD-eq-default (startsFrom b) (blocksIn s) {n = 0} l))
-
-  -- and has a block at least
-  pub start-order : (k : ℕ) → k < sheetsIn s → startOf s k < startOf s (suc k)
-  start-order k h = omega (arith, start-next k h, start-inside k h, first-low (startOf s k + 1) (omega (arith, start-inside k h)))
 
   -- ---- a sheet is the part of the class set from its start to the next one's
 

@@ -2,15 +2,15 @@
 use mathlib.Core.Path.{_≡_, refl, sym, ap, ap₂, _∙_}
 use mathlib.Core.Bool.{Bool, true, false, cond, _&&_}
 use mathlib.Core.List.{List, [], _∷_, _++_, append-nil}
-use Prim.Native.Nat.{ℕ, zero, suc, _+_, _-_, _*_, _/_, _≤_, _<_}
+use Prim.Native.Nat.{ℕ, zero, suc, _+_, _-_, _*_, _≤_, _<_}
 use native.Mathlib.Nat.{add-zero, zero-add}
 use native.Mathlib.Omega.{arith}
-use borrow.Author.Tests.{eq-eqb, ne-eqb, eqb-true}
+use borrow.Author.Tests.{ne-eqb, eqb-true}
 use lib.Dec.{eqb}
 use lib.ListN.{length, getD, take, drop, length-append, List·getD-append, List·getD-eq-default}
 use lib.Seq.{getD-append-add, getD-take, getD-drop}
 use Rattle.base.specs.Sizes.{blockBytes}
-use Rattle.base.specs.Lists.{tab, keep, joins, zeros}
+use Rattle.base.specs.Lists.{tab, keep, joins}
 use Rattle.base.specs.Bytes.{part, u16At}
 use Rattle.base.specs.Refusals.{Accepted}
 use Rattle.base.specs.ListLaws.{by-eq, and-true, getD-tab, length-tab, tab-snoc}

@@ -8,7 +8,7 @@ use base::BLOCK_BYTES;
 use sheet::reader::u16_at;
 
 // Whether block b is numbered 0.
-pub fn starts_at(s: &[u8], b: usize) -> bool
+fn starts_at(s: &[u8], b: usize) -> bool
     requires { ⌜ b < blocksIn (now s) ⌝ }
     ensures { λ r. ⌜ r ≡ startsAt (now (s .entry)) b ⌝ }
 {
@@ -34,7 +34,8 @@ pub fn count_sheets(s: &[u8]) -> usize
 // The first block from `from` on at which a sheet starts, or the end.
 pub fn next_start(s: &[u8], from: usize) -> usize
     requires { ⌜ from ≤ blocksIn (now s) ⌝ }
-    ensures { λ r. ⌜ r ≡ getD (keep (blocksIn (now (s .entry)) - from) from (startsAt (now (s .entry)))) 0 (blocksIn (now (s .entry))) ⌝ }
+    ensures first { λ r. ⌜ r ≡ getD (keep (blocksIn (now (s .entry)) - from) from (startsAt (now (s .entry)))) 0 (blocksIn (now (s .entry))) ⌝ }
+    ensures within { λ r. ⌜ (from ≤ r) × (r ≤ blocksIn (now (s .entry))) ⌝ }
 {
     let blocks = s.len() / BLOCK_BYTES;
     let mut b = from;

@@ -11,7 +11,6 @@ ghost use Rattle.live_class.specs.ClassSet.{sheetsIn, checkClass, aloneA
 ghost use Rattle.live_class.specs.ClassMeaning.{ClassMeaning};
 use crate::cut::count_sheets;
 use crate::cut::next_start;
-use crate::cut::starts_at;
 use base::ANSWER_NUMBERS;
 use base::Answer;
 use base::BLOCK_BYTES;
@@ -21,6 +20,7 @@ use base::MAX_SHEETS;
 use base::Refusal;
 use base::width::u16_to_u32;
 use live::analysis::live;
+use sheet::reader::u16_at;
 
 // 1, 16, 17 and 9, of a class set of m sheets.
 fn check_class(sheets: &[u8], m: usize, lent: usize, numbers: usize) -> Checked
@@ -33,7 +33,7 @@ fn check_class(sheets: &[u8], m: usize, lent: usize, numbers: usize) -> Checked
     if sheets.len() % BLOCK_BYTES != 0 {
         return Checked::Refused(Refusal::Length);
     }
-    if !starts_at(sheets, 0) {
+    if u16_at(sheets, 0) != 0 {
         return Checked::Refused(Refusal::FirstBlock);
     }
     if MAX_SHEETS < m {

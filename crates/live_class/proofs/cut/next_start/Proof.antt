@@ -1,7 +1,7 @@
 -- `cut::next_start` meets its contract: at each turn, the first start from the beginning is the first from here on. Assumes nothing.
 use mathlib.Core.Path.{_≡_, sym, ap, _∙_}
 use mathlib.Core.List.{List}
-use Prim.Native.Nat.{ℕ, _-_, _<_, _≤_}
+use Prim.Native.Nat.{ℕ, _-_, _≤_}
 use native.Mathlib.Omega.{arith}
 use lib.ListN.{getD}
 use borrow.Author.Needs.{needs}
@@ -11,7 +11,7 @@ use Rattle.live_class.proofs.cut.next_start.Statement.{statement}
 use Rattle.live_class.proofs.cut.next_start.Tie as tie
 
 abbrev Inv-loop : tie.InvT-loop
-Inv-loop s from blocks b₀ b = (b ≤ blocks) × (firstFrom s from ≡ firstFrom s b)
+Inv-loop s from blocks b₀ b = (from ≤ b) × (b ≤ blocks) × (firstFrom s from ≡ firstFrom s b)
 
 abbrev μ-loop : tie.MeasureT-loop
 μ-loop s from blocks b₀ b = blocks - b
@@ -20,19 +20,19 @@ returns : tie.Need-returns Inv-loop μ-loop
 returns c =
     let s = c .before .before .before .before .before .args .s .now in
     let l = c .before .before .before .loop in
-    sym (l .inv .1 ∙ first-here s (l .b) (omega arith) (sym (c .before .starts-at .ensures) ∙ c .if1 .taken))
+    (sym (l .inv .2 ∙ first-here s (l .b) (omega arith) (sym (c .before .starts-at .ensures) ∙ c .if1 .taken)), search needs)
 
 loop-again : tie.Need-loop-again Inv-loop μ-loop
 loop-again c =
     let s = c .before .before .before .before .before .args .s .now in
     let l = c .before .before .before .loop in
-    (omega arith, l .inv .1 ∙ ap (λ (xs : List ℕ). getD xs 0 (blocksIn s)) (starts-pass s (l .b) (omega arith) (sym (c .before .starts-at .ensures) ∙ c .if1 .left)))
+    (omega arith, omega arith, l .inv .2 ∙ ap (λ (xs : List ℕ). getD xs 0 (blocksIn s)) (starts-pass s (l .b) (omega arith) (sym (c .before .starts-at .ensures) ∙ c .if1 .left)))
 
 returns-2 : tie.Need-returns-2 Inv-loop μ-loop
 returns-2 c =
     let s = c .before .before .before .args .s .now in
     let l = c .before .loop in
-    sym (l .inv .1 ∙ ap (λ (xs : List ℕ). getD xs 0 (blocksIn s)) (starts-end s (l .b) (omega arith)))
+    (sym (l .inv .2 ∙ ap (λ (xs : List ℕ). getD xs 0 (blocksIn s)) (starts-end s (l .b) (omega arith))), search needs)
 
 pub next-start-spec : {M : Type 1} → statement M
 next-start-spec =

@@ -1,11 +1,8 @@
 -- `live_class::check_class` meets its contract: the first test that fails decides. Assumes nothing.
-use mathlib.Core.Path.{_≡_, sym, ap, _∙_}
-use mathlib.Core.Bool.{Bool, not, true, false, _&&_}
+use mathlib.Core.Path.{sym}
 use native.Mathlib.Omega.{arith}
 use borrow.Author.Needs.{needs}
-use borrow.Author.Tests.{not-true, not-false}
-use lib.ListN.{length}
-use Rattle.live_class.specs.ClassLaws.{bad-length, no-length, good-length, class-length, class-first, class-many, class-short, class-answers, class-passes}
+use Rattle.live_class.specs.ClassLaws.{bad-length, no-length, good-length, first-zero, first-other, class-length, class-first, class-many, class-short, class-answers, class-passes}
 use Rattle.live_class.proofs.live_class.check_class.Statement.{statement}
 use Rattle.live_class.proofs.live_class.check_class.Tie as tie
 
@@ -16,19 +13,19 @@ returns-2 : tie.Need-returns-2
 returns-2 c = sym (class-length _ _ _ (bad-length _ (c .if2 .taken)))
 
 returns-3 : tie.Need-returns-3
-returns-3 c = sym (class-first _ _ _ (good-length _ (c .before .before .before .if1 .left) (c .before .before .if2 .left)) (sym (c .before .starts-at .ensures) ∙ not-true _ (c .if3 .taken)))
+returns-3 c = sym (class-first _ _ _ (good-length _ (c .before .before .before .if1 .left) (c .before .before .if2 .left)) (first-other _ (c .before .u16-at .ensures) (λ z. omega arith)))
 
 returns-4 : tie.Need-returns-4
-returns-4 c = sym (class-many _ _ _ (good-length _ (c .before .before .before .before .if1 .left) (c .before .before .before .if2 .left)) (sym (c .before .before .starts-at .ensures) ∙ not-false _ (c .before .if3 .left)) (omega (arith, c .before .before .before .before .before .before .pre)))
+returns-4 c = sym (class-many _ _ _ (good-length _ (c .before .before .before .before .if1 .left) (c .before .before .before .if2 .left)) (first-zero _ (c .before .before .u16-at .ensures) (omega arith)) (omega (arith, c .before .before .before .before .before .before .pre)))
 
 returns-5 : tie.Need-returns-5
-returns-5 c = sym (class-short _ _ _ (good-length _ (c .before .before .before .before .before .if1 .left) (c .before .before .before .before .if2 .left)) (sym (c .before .before .before .starts-at .ensures) ∙ not-false _ (c .before .before .if3 .left)) (omega (arith, c .before .before .before .before .before .before .before .pre)) (omega (arith, c .before .before .before .before .before .before .before .pre)))
+returns-5 c = sym (class-short _ _ _ (good-length _ (c .before .before .before .before .before .if1 .left) (c .before .before .before .before .if2 .left)) (first-zero _ (c .before .before .before .u16-at .ensures) (omega arith)) (omega (arith, c .before .before .before .before .before .before .before .pre)) (omega (arith, c .before .before .before .before .before .before .before .pre)))
 
 returns-6 : tie.Need-returns-6
-returns-6 c = sym (class-answers _ _ _ (good-length _ (c .before .before .before .before .before .before .if1 .left) (c .before .before .before .before .before .if2 .left)) (sym (c .before .before .before .before .starts-at .ensures) ∙ not-false _ (c .before .before .before .if3 .left)) (omega (arith, c .before .before .before .before .before .before .before .before .pre)) (omega (arith, c .before .before .before .before .before .before .before .before .pre)) (omega (arith, c .before .before .before .before .before .before .before .before .pre)))
+returns-6 c = sym (class-answers _ _ _ (good-length _ (c .before .before .before .before .before .before .if1 .left) (c .before .before .before .before .before .if2 .left)) (first-zero _ (c .before .before .before .before .u16-at .ensures) (omega arith)) (omega (arith, c .before .before .before .before .before .before .before .before .pre)) (omega (arith, c .before .before .before .before .before .before .before .before .pre)) (omega (arith, c .before .before .before .before .before .before .before .before .pre)))
 
 returns-7 : tie.Need-returns-7
-returns-7 c = sym (class-passes _ _ _ (good-length _ (c .before .before .before .before .before .before .if1 .left) (c .before .before .before .before .before .if2 .left)) (sym (c .before .before .before .before .starts-at .ensures) ∙ not-false _ (c .before .before .before .if3 .left)) (omega (arith, c .before .before .before .before .before .before .before .before .pre)) (omega (arith, c .before .before .before .before .before .before .before .before .pre)) (omega (arith, c .before .before .before .before .before .before .before .before .pre)))
+returns-7 c = sym (class-passes _ _ _ (good-length _ (c .before .before .before .before .before .before .if1 .left) (c .before .before .before .before .before .if2 .left)) (first-zero _ (c .before .before .before .before .u16-at .ensures) (omega arith)) (omega (arith, c .before .before .before .before .before .before .before .before .pre)) (omega (arith, c .before .before .before .before .before .before .before .before .pre)) (omega (arith, c .before .before .before .before .before .before .before .before .pre)))
 
 pub check-class-spec : {M : Type 1} → statement M
 check-class-spec =
