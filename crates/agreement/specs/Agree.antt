@@ -5,6 +5,7 @@ use mathlib.Core.Bool.{Bool, true}
 use mathlib.Core.List.{List, [], _∷_, _++_}
 use lib.ListN.{length, take, drop}
 use Rattle.base.specs.Refusals.{Reply, resultOf, outputAfter}
+use Rattle.live_class.specs.ClassSet.{setsReply, answersReply}
 use Rattle.c_api.specs.Packed.{packed}
 
 -- b says whether P
@@ -37,3 +38,9 @@ atFront xs d = xs ++ drop (length xs) d
 pub record AgreesPairs (r : Reply) (lent result : ℕ) (table out want : List ℕ) : Type 0 where
   pub answer : SameResult r result
   pub output : atFront (pairs (after r lent table)) out ≡ want
+
+-- a class set, with the first `lent` bytes of `sets` and the first `numbers` of `answers` lent: all of both then is what is wanted
+pub record AgreesClass (s : List ℕ) (lent numbers result : ℕ) (sets answers want numbered : List ℕ) : Type 0 where
+  pub answer : SameResult (setsReply s (take lent sets) numbers) result
+  pub output : after (setsReply s (take lent sets) numbers) lent sets ≡ want
+  pub answered : after (answersReply s lent numbers) numbers answers ≡ numbered

@@ -1,7 +1,7 @@
 -- A call's contract and a comparison together say whether the call answers as it is stored. Assumes nothing.
 use Prim.Native.Nat.{ℕ, _≤_}
 use native.Mathlib.Omega.{arith}
-use mathlib.Core.Path.{_≡_, sym, ap, _∙_}
+use mathlib.Core.Path.{_≡_, sym, ap, ap₂, _∙_}
 use mathlib.Core.Bool.{Bool, true, false}
 use mathlib.Core.List.{List, _++_}
 use lib.Dec.{eqb}
@@ -9,8 +9,9 @@ use lib.ListN.{length, take, drop, length-take}
 use lib.Seq.{length-take-le}
 use borrow.Author.Tests.{eqb-true, eq-eqb}
 use Rattle.base.specs.Refusals.{Reply, resultOf, outputAfter}
+use Rattle.live_class.specs.ClassSet.{setsReply, answersReply}
 use Rattle.c_api.specs.Packed.{packed}
-use Rattle.agreement.specs.Agree.{Says, SameResult, Agrees, after}
+use Rattle.agreement.specs.Agree.{Says, SameResult, Agrees, AgreesClass, after}
 
 -- the front of a list, as long as it is asked
 pub front-long : (n long : ℕ) (xs : List ℕ) → n ≤ long → length xs ≡ long → n ≡ length (take n xs)
@@ -34,3 +35,30 @@ agreed f lent result got out last want b h is kept says =
     let o : after (f lent) lent out ≡ last ++ drop lent out =
     ap (λ (n : ℕ). outputAfter (f n) (take lent out) ++ drop lent out) (sym e) ∙ ap (λ (l : List ℕ). l ++ drop lent out) (sym kept) in
     (λ t. record { answer = a ∙ says .0 t .0; output = o ∙ says .0 t .1 }, λ w. says .1 (sym a ∙ w .answer, sym o ∙ w .output))
+
+-- a class set: b compares the result and the sets, d the answers
+module _ (s : List ℕ) (lent numbers result got : ℕ) (sets last answers left want numbered : List ℕ) (room : lent ≤ length sets) (more : numbers ≤ length answers)
+    (is : got ≡ packed (resultOf (setsReply s (take lent sets) (length (take numbers answers)))))
+    (kept : last ≡ outputAfter (setsReply s (take lent sets) (length (take numbers answers))) (take lent sets))
+    (filled : left ≡ outputAfter (answersReply s (length (take lent sets)) (length (take numbers answers))) (take numbers answers)) where
+  enough : length (take numbers answers) ≡ numbers
+  enough = length-take-le numbers answers more
+
+  same-answer : packed (resultOf (setsReply s (take lent sets) numbers)) ≡ got
+  same-answer = ap (λ (n : ℕ). packed (resultOf (setsReply s (take lent sets) n))) (sym enough) ∙ sym is
+
+  same-sets : after (setsReply s (take lent sets) numbers) lent sets ≡ last ++ drop lent sets
+  same-sets = ap (λ (n : ℕ). outputAfter (setsReply s (take lent sets) n) (take lent sets) ++ drop lent sets) (sym enough) ∙ ap (λ (l : List ℕ). l ++ drop lent sets) (sym kept)
+
+  same-numbers : after (answersReply s lent numbers) numbers answers ≡ left ++ drop numbers answers
+  same-numbers =
+      ap₂ (λ (m n : ℕ). outputAfter (answersReply s m n) (take numbers answers) ++ drop numbers answers) (sym (length-take-le lent sets room)) (sym enough)
+      ∙ ap (λ (l : List ℕ). l ++ drop numbers answers) (sym filled)
+
+  pub class-agreed : (b : Bool) → left ++ drop numbers answers ≡ numbered → Says b ((got ≡ result) × (last ++ drop lent sets ≡ want)) → Says b (AgreesClass s lent numbers result sets answers want numbered)
+  class-agreed b q says =
+      (λ t. record { answer = same-answer ∙ says .0 t .0; output = same-sets ∙ says .0 t .1; answered = same-numbers ∙ q }, λ w. says .1 (sym same-answer ∙ w .answer, sym same-sets ∙ w .output))
+
+  -- the answers differ
+  pub class-other : (left ++ drop numbers answers ≡ numbered → ⊥) → Says false (AgreesClass s lent numbers result sets answers want numbered)
+  class-other h = (λ e. never e, λ w. absurd (h (sym same-numbers ∙ w .answered)))

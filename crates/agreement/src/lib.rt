@@ -10,7 +10,7 @@ ghost use Rattle.label.specs.LabelCall.{labelReply};
 ghost use Rattle.livevar_analysis.specs.Analysis.{liveReply};
 ghost use Rattle.livevar_transform.specs.Rewrite.{rewriteReply};
 ghost use Rattle.eliminate_unused_vars.specs.Renumber.{renumberReply};
-ghost use Rattle.agreement.specs.Agree.{Says, SameResult, Agrees, AgreesPairs, atFront, pairs};
+ghost use Rattle.agreement.specs.Agree.{Says, SameResult, Agrees, AgreesPairs, AgreesClass, atFront, pairs};
 use c_api::sorzibelu_check;
 use c_api::sorzibelu_conditional;
 use c_api::sorzibelu_dying;
@@ -18,6 +18,7 @@ use c_api::sorzibelu_flow;
 use c_api::sorzibelu_in_use;
 use c_api::sorzibelu_label;
 use c_api::sorzibelu_live;
+use c_api::sorzibelu_live_class;
 use c_api::sorzibelu_renumber;
 use c_api::sorzibelu_rewrite;
 use check::same;
@@ -36,6 +37,23 @@ fn agrees(got: u64, result: u64, out: &[u8], want: &[u8]) -> bool
         return false;
     }
     same(out, want)
+}
+
+// Whether two lists of numbers are the same.
+fn same_numbers(a: &[u32], b: &[u32]) -> bool
+    ensures { λ r. ⌜ Says r (now (a .entry) ≡ now (b .entry)) ⌝ }
+{
+    if a.len() != b.len() {
+        return false;
+    }
+    let mut i = 0;
+    while i < a.len() {
+        if a[i] != b[i] {
+            return false;
+        }
+        i += 1;
+    }
+    true
 }
 
 fn low(x: u16) -> u8
@@ -85,6 +103,27 @@ pub fn live_agrees(sheet: &[u8], lent: usize, result: u64, want: &[u8], out: &mu
 {
     let r = sorzibelu_live(sheet, &mut out[..lent]);
     agrees(r, result, out, want)
+}
+
+// Of the stored case `lent` is of the bytes of `sets`, and `numbers` of the answers.
+pub fn live_class_agrees(
+    sheets: &[u8],
+    stored: StoredCase,
+    numbers: usize,
+    want: &[u8],
+    numbered: &[u32],
+    sets: &mut [u8],
+    answers: &mut [u32],
+) -> bool
+    requires { ⌜ (stored .lent ≤ length (now sets)) × (numbers ≤ length (now answers)) ⌝ }
+    ensures { λ r. ⌜ Says r (AgreesClass (now (sheets .entry)) (stored .lent) numbers (stored .result) (now (sets .entry)) (now (answers .entry)) (now (want .entry)) (now (numbered .entry))) ⌝ }
+{
+    let lent = stored.lent;
+    let r = sorzibelu_live_class(sheets, &mut sets[..lent], &mut answers[..numbers]);
+    if !same_numbers(answers, numbered) {
+        return false;
+    }
+    agrees(r, stored.result, sets, want)
 }
 
 pub fn rewrite_agrees(sheet: &[u8], lent: usize, result: u64, want: &[u8], out: &mut [u8]) -> bool

@@ -1,4 +1,5 @@
 // A stored case, asked of the call that it names. Assumes nothing.
+ghost use mathlib.Core.Path.{_≡_};
 ghost use Prim.Native.Nat.{_+_, _*_, _%_, _/_, _≤_};
 ghost use lib.ListN.{length};
 use agreement::StoredCase;
@@ -9,8 +10,13 @@ use agreement::flow_agrees;
 use agreement::in_use_agrees;
 use agreement::label_agrees;
 use agreement::live_agrees;
+use agreement::live_class_agrees;
 use agreement::renumber_agrees;
 use agreement::rewrite_agrees;
+use base::ANSWER_NUMBERS;
+use base::BLOCK_BYTES;
+use base::LIVE_BYTES;
+use base::MAX_SHEETS;
 use sheet::reader::u32_at;
 use stored_cases::packed::FILL;
 use stored_cases::packed::ROOM;
@@ -33,6 +39,17 @@ const NO_GRAPH: usize = TRIPLE_NUMBERS + 1;
 
 // The bytes of an asked node or label.
 const ASKED_BYTES: usize = 4;
+
+// The most bytes and numbers that are lent to a class set.
+const CLASS_BYTES: usize = MAX_SHEETS * LIVE_BYTES + BLOCK_BYTES;
+
+const CLASS_NUMBERS: usize = 64;
+
+// A number of a class set's answers before a call.
+const FILL_ANSWER: u32 = 2779096485;
+
+// What is stored of each sheet of a class set: number, place, count, and how many bytes it writes.
+const SHEET_ROW: usize = 16;
 
 // The longest graph.
 pub const GRAPH_BYTES: usize = TRIPLES_AT + 4 * TRIPLE_NUMBERS;
@@ -164,6 +181,97 @@ fn ask_dying(graph: &[u8], next: &[u8], lent: usize, result: u64, want: &[u8]) -
     ))
 }
 
+// All of `from`, at `place` of `out`; false where it does not go in.
+fn lay_bytes(from: &[u8], out: &mut [u8], place: usize) -> bool {
+    if out.len() < place {
+        return false;
+    }
+    if out.len() - place < from.len() {
+        return false;
+    }
+    let mut i = 0;
+    while i < from.len() {
+        out[place + i] = from[i];
+        i += 1;
+    }
+    true
+}
+
+// x at a place of `out`, where there is one.
+fn store(out: &mut [u32], at: usize, x: u32) {
+    if at < out.len() {
+        out[at] = x;
+    }
+}
+
+// Number, place and count of a row, as those of the sheet whose numbers start at `at`.
+fn lay_numbers(row: &[u8], numbered: &mut [u32], at: usize)
+    requires { ⌜ (length (now row) ≡ 16) × (at ≤ 48) ⌝ }
+{
+    store(numbered, at, u32_at(row, 0));
+    store(numbered, at + 1, u32_at(row, 4));
+    store(numbered, at + 2, u32_at(row, 8));
+}
+
+// What a class set is to leave: the bytes of its sheets, which stand one behind the other in `written`, each at its own place, and their numbers. False where
+// these bytes are no class set's answer: `rows` has the numbers lent, then a row for each sheet.
+fn lay_out(rows: &[u8], written: &[u8], want: &mut [u8], numbered: &mut [u32]) -> bool {
+    let n = rows.len() / SHEET_ROW;
+    if n > MAX_SHEETS {
+        return false;
+    }
+    if rows.len() != ASKED_BYTES + SHEET_ROW * n {
+        return false;
+    }
+    let mut at = 0;
+    let mut k = 0;
+    while k < n {
+        let row = ASKED_BYTES + SHEET_ROW * k;
+        let end = row + SHEET_ROW;
+        let long = u32_at(rows, row + 12) as usize;
+        if written.len() - at < long {
+            return false;
+        }
+        let to = at + long;
+        if !lay_bytes(&written[at..to], want, LIVE_BYTES * k) {
+            return false;
+        }
+        lay_numbers(&rows[row..end], numbered, ANSWER_NUMBERS * k);
+        at = to;
+        k += 1;
+    }
+    true
+}
+
+fn ask_live_class(sheets: &[u8], rows: &[u8], stored: StoredCase, written: &[u8]) -> Came {
+    let mut want = [FILL; CLASS_BYTES];
+    let mut numbered = [FILL_ANSWER; CLASS_NUMBERS];
+    if !lay_out(rows, written, &mut want, &mut numbered) {
+        return Came::Damaged;
+    }
+    if rows.len() < ASKED_BYTES {
+        return Came::Damaged;
+    }
+    let numbers = u32_at(rows, 0) as usize;
+    if numbers > CLASS_NUMBERS {
+        return Came::Damaged;
+    }
+    if stored.lent > CLASS_BYTES {
+        return Came::Damaged;
+    }
+    let mut sets = [FILL; CLASS_BYTES];
+    let mut answers = [FILL_ANSWER; CLASS_NUMBERS];
+    compared(live_class_agrees(
+        sheets,
+        stored,
+        numbers,
+        &want,
+        &numbered,
+        &mut sets,
+        &mut answers,
+    ))
+}
+
 // The call that `op` names.
 pub fn ask(op: u8, input: &[u8], second: &[u8], lent: usize, result: u64, want: &[u8]) -> Came {
     match op {
@@ -176,6 +284,7 @@ pub fn ask(op: u8, input: &[u8], second: &[u8], lent: usize, result: u64, want: 
         7 => compared(check_agrees(input, result)),
         8 => ask_renumber(input, lent, result, want),
         9 => ask_label(input, second, result),
+        10 => ask_live_class(input, second, StoredCase { lent, result }, want),
         _ => Came::Damaged,
     }
 }

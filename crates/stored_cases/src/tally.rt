@@ -10,7 +10,7 @@ pub enum Came {
 }
 
 // One above the highest op.
-const OPS: usize = 10;
+const OPS: usize = 11;
 
 // A count for each op, and behind them those of all cases, of differences, and of the cases made wrong and found.
 pub const COUNTS: usize = OPS + 4;
@@ -100,6 +100,7 @@ pub fn print_counts(counts: &[u32]) {
     line(b"check ", get(counts, 7), b" sheets\n");
     line(b"renumber ", get(counts, 8), b" sheets\n");
     line(b"label ", get(counts, 9), b" sheets\n");
+    line(b"live class ", get(counts, 10), b" class sets\n");
     line(b"", get(counts, CASES), b" cases, ");
     line(b"", get(counts, DIFFERENCES), b" differences\n");
     line(b"", get(counts, WRONG), b" made wrong, ");
