@@ -7,14 +7,14 @@
  * any other number is a refusal of the paper's table, and value is its place. SORZIBELU_NUMBER and SORZIBELU_VALUE take the two apart.
  * A refusal leaves what was lent as it was; on acceptance the answer is written at the front, and nothing else is.
  *
- * Slices. Each is a pointer and a count of elements. A pointer may be NULL where its count is 0. `table` is aligned to 2 bytes, lists of triples
- * to 4, all else to 1. What is lent overlaps nothing else that is handed over.
+ * Slices. Each is a pointer and a count of elements. A pointer may be NULL where its count is 0. `table` is aligned to 2 bytes, `answers` and lists of
+ * triples to 4, all else to 1. What is lent overlaps nothing else that is handed over.
  *
  * Stack. The calls allocate nothing and keep nothing between calls, so that threads may call them at the same time; their arrays are on the stack.
  * A thread of SORZIBELU_STACK_BYTES is enough for every call but sorzibelu_page, which needs SORZIBELU_PAGE_STACK_BYTES:
  *
- *     check 16.1 KiB   flow 17.3 KiB   live 189.5 KiB   rewrite 205.6 KiB   renumber 45.3 KiB   label 16.2 KiB   livelist 205.6 KiB   page 241.6 KiB
- *     dying 9.3 KiB   in_use, conditional below 1 KiB
+ *     check 16.1 KiB   flow 17.3 KiB   live 189.5 KiB   live_class 189.7 KiB   rewrite 205.6 KiB   renumber 45.3 KiB   label 16.2 KiB
+ *     livelist 205.6 KiB   page 241.6 KiB   dying 9.3 KiB   in_use, conditional below 1 KiB
  */
 #ifndef SORZIBELU_H
 #define SORZIBELU_H
@@ -31,7 +31,7 @@ extern "C" {
 
 /* The refusals. */
 enum {
-    SORZIBELU_LENGTH = 1,          /* length no multiple of 512, below 1,024 or above 35,840 */
+    SORZIBELU_LENGTH = 1,          /* length no multiple of 512, below 1,024 or above 35,840; of a class set: zero or no multiple of 512 */
     SORZIBELU_BLOCK = 2,           /* a block's number, check or bytes 4 to 31; place: the block */
     SORZIBELU_HEADING = 3,         /* the heading, or a block count that does not fit it */
     SORZIBELU_RECORD = 4,          /* a record breaks the table of kinds; place: its offset, here and in 5 to 8 */
@@ -45,7 +45,9 @@ enum {
     SORZIBELU_NODES = 12,          /* a graph has more than 64 nodes or a live bit past them; place: 0, second graph 1 */
     SORZIBELU_TRIPLE = 13,         /* a list of triples; place: 300 for its length, else the triple; 1,000 more for the second graph */
     SORZIBELU_ASKED_NODE = 14,     /* the asked node is not below the count */
-    SORZIBELU_HIDDEN_LOCAL = 15    /* an IsParent or WriteBack hides a local in its payload from renumber; place: its offset */
+    SORZIBELU_HIDDEN_LOCAL = 15,   /* an IsParent or WriteBack hides a local in its payload from renumber; place: its offset */
+    SORZIBELU_FIRST_BLOCK = 16,    /* the number of a class set's first block is not 0 */
+    SORZIBELU_TOO_MANY_SHEETS = 17 /* a class set has more than 16 sheets */
 };
 
 /* Sizes. */
@@ -54,6 +56,8 @@ enum {
 #define SORZIBELU_MAX_SHEET_BYTES 35840
 #define SORZIBELU_FLOW_NUMBERS (6 * SORZIBELU_MAX_INSTRUCTIONS)
 #define SORZIBELU_LIVE_BYTES (16 * SORZIBELU_MAX_INSTRUCTIONS)
+#define SORZIBELU_MAX_CLASS_SHEETS 16
+#define SORZIBELU_NUMBERS_PER_SHEET 3
 #define SORZIBELU_MAX_NODES 64
 #define SORZIBELU_MAX_TRIPLES 256
 #define SORZIBELU_PAGE_BYTES 979630
@@ -75,6 +79,16 @@ uint64_t sorzibelu_flow(const uint8_t *sheet, size_t sheet_len, uint16_t *table,
  * little-endian, bit i for local i. Refused 9 where sets_len is below 16 an instruction; SORZIBELU_LIVE_BYTES are always enough.
  */
 uint64_t sorzibelu_live(const uint8_t *sheet, size_t sheet_len, uint8_t *sets, size_t sets_len);
+
+/*
+ * The live sets of a class set: sheets laid end to end, each from a block whose number, its bytes 0 and 1, is 0 up to the next such block or the end. Value: how
+ * many sheets. Sheet k, from 0, is answered as sorzibelu_live answers it alone with SORZIBELU_LIVE_BYTES lent: its sets at the front of the SORZIBELU_LIVE_BYTES
+ * from SORZIBELU_LIVE_BYTES * k on, and in the three numbers from 3 * k on its number and place, both 0 where it is accepted, and how many blocks the work list
+ * gave out, 0 where it is refused. A refused sheet stops no other, and leaves its bytes of `sets` as they were. Refused 1 where sheets_len is zero or no multiple of
+ * 512, then 16 where the first block's number is not 0, then 17 where there are more than SORZIBELU_MAX_CLASS_SHEETS sheets, then 9 where sets_len is below
+ * SORZIBELU_LIVE_BYTES a sheet or answers_len below SORZIBELU_NUMBERS_PER_SHEET a sheet, refused sheets too.
+ */
+uint64_t sorzibelu_live_class(const uint8_t *sheets, size_t sheets_len, uint8_t *sets, size_t sets_len, uint32_t *answers, size_t answers_len);
 
 /*
  * The rewritten sheet. Value: its length in bytes. The sheet at the front of `out`. Refused 9 where out_len is below SORZIBELU_MAX_SHEET_BYTES,

@@ -17,6 +17,7 @@ pub fn calls() -> Vec<(&'static str, Call)> {
         ("check", |i| discard(check(&i.sheet))),
         ("flow", |i| discard(flow(&i.sheet, &mut vec![0; FLOW_NUMBERS]))),
         ("live", |i| discard(live(&i.sheet, &mut vec![0; LIVE_BYTES]))),
+        ("live_class", |i| discard(live_class(&i.sheet.repeat(3), &mut vec![0; 3 * LIVE_BYTES], &mut [0; 3 * NUMBERS_PER_SHEET]))),
         ("rewrite", |i| discard(rewrite(&i.sheet, &mut vec![0; MAX_SHEET_BYTES]))),
         ("renumber", |i| discard(renumber(&i.sheet, &mut vec![0; MAX_SHEET_BYTES]))),
         ("label", |i| discard(label(&i.sheet, 1))),

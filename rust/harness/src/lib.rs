@@ -1,4 +1,5 @@
 //! What the proved calls are compared with, and what asks them.
+pub mod classes;
 pub mod graphs;
 pub mod heavy;
 pub mod lent;

@@ -1,5 +1,5 @@
 //! Answers as values beside the lent ones, conversions in place of panics, and refusals in words, on random sheets and graphs.
-use harness::{graphs, plain, random, random::Rng, Bytes};
+use harness::{classes, graphs, plain, random, random::Rng, Bytes};
 use sorzibelu::{graph, sheet::*, *};
 
 #[test]
@@ -34,6 +34,35 @@ fn values_are_what_was_lent() {
         let mut out = [0; MAX_NODES];
         assert_eq!(dying_nodes(a.graph(), b.graph()), dying(a.graph(), b.graph(), &mut out).map(|n| out[..n as usize].to_vec()));
     }
+}
+
+#[test]
+fn values_of_class_sets() {
+    let mut rng = Rng::new(25);
+    let pool = classes::Pool::new(&mut rng, 10, random::shape);
+    let mut refused = [0; 18];
+    for _ in 0..200 {
+        let count = classes::count(&mut rng);
+        let class = classes::class(&mut rng, count, |rng| pool.sheet(rng));
+        assert_eq!(class_sheets(&class).concat(), class);
+        match class_live_sets(&class) {
+            // each sheet's is what it is alone
+            Ok(all) => assert_eq!(all, class_sheets(&class).into_iter().map(live_sets).collect::<Vec<_>>()),
+            Err(r) => {
+                refused[r.number() as usize] += 1;
+                assert_eq!(live_class(&class, &mut vec![0; MAX_CLASS_SHEETS * LIVE_BYTES], &mut [0; MAX_CLASS_SHEETS * NUMBERS_PER_SHEET]), Err(r));
+                let said = class_why(&class, r);
+                assert!(!is_general(r, &said) && said.lines().count() == 1, "{r}: {said}");
+            }
+        }
+        (0..18).for_each(|number| drop(class_why(&class, Refusal::of(number, rng.number() as u16))));
+    }
+    assert!([1, 16, 17].iter().all(|number| refused[*number] > 5), "{refused:?}");
+    // blocks in front of the first that is numbered 0, and a rest that is no whole block
+    let bytes = [[1; 512], [0; 512], [1; 512]].concat();
+    let lengths = |s: &[u8]| class_sheets(s).iter().map(|part| part.len()).collect::<Vec<_>>();
+    assert_eq!((lengths(&bytes), lengths(&bytes[..1_535]), lengths(&bytes[..1_023])), (vec![512, 1_024], vec![512, 1_023], vec![1_023]));
+    assert_eq!((lengths(&[]), lengths(&[0]), lengths(&[7; 511]), lengths(&[0; 1_025])), (vec![], vec![1], vec![511], vec![512, 513]));
 }
 
 #[test]
@@ -76,7 +105,7 @@ fn every_refused_sheet_has_its_own_words() {
                 let said = why(&t, r);
                 assert!(!is_general(r, &said) && said.lines().count() == 1, "{r}: {said}");
                 // and any other refusal of the same bytes is answered somehow
-                (0..16).for_each(|number| drop(why(&t, Refusal::of(number, rng.number() as u16))));
+                (0..18).for_each(|number| drop(why(&t, Refusal::of(number, rng.number() as u16))));
             }
         }
     }
@@ -105,7 +134,7 @@ fn every_refused_graph_has_its_own_words() {
             met[r.number() as usize] += 1;
             let said = graph::why(graphs, node, r);
             assert!(!is_general(r, &said) && said.lines().count() == 1, "{r}: {said}");
-            (0..16).for_each(|number| drop(graph::why(graphs, node, Refusal::of(number, rng.number() as u16))));
+            (0..18).for_each(|number| drop(graph::why(graphs, node, Refusal::of(number, rng.number() as u16))));
         }
     }
     assert!(met[12..].iter().all(|n| *n > 50), "{met:?}");
@@ -116,7 +145,7 @@ fn a_refusal_is_its_number_and_place() {
     for number in 1..=20 {
         for place in [0, 1, 300, 1_023, 1_300] {
             let r = Refusal::of(number, place);
-            let has_place = !matches!(number, 1 | 3 | 9 | 10 | 11 | 14);
+            let has_place = !matches!(number, 1 | 3 | 9 | 10 | 11 | 14 | 16 | 17);
             assert_eq!((r.number(), r.place()), (number, if has_place { place } else { 0 }));
             assert_eq!(Refusal::of(r.number(), r.place()), r);
         }

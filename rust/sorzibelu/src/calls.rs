@@ -57,6 +57,35 @@ pub fn live(sheet: &[u8], sets: &mut [u8]) -> Result<u32, Refusal> {
     lent(sheet, sets, ffi::sorzibelu_live)
 }
 
+/// The live sets of a class set: sheets laid end to end, each from a block whose number, its bytes 0 and 1, is 0 up to the next such block or the end; how many
+/// sheets. Sheet k, from 0, is answered as [`live`] answers it alone: its sets at the front of the [`LIVE_BYTES`](crate::LIVE_BYTES) from `LIVE_BYTES * k` on, and
+/// in the [`NUMBERS_PER_SHEET`](crate::NUMBERS_PER_SHEET) numbers from `NUMBERS_PER_SHEET * k` on its number and place, both 0 where it is accepted, and how many
+/// blocks were taken, 0 where it is refused. A refused sheet stops no other, and its bytes stay as they were.
+///
+/// The whole is refused where it is empty or no multiple of 512 bytes ([`Length`](Refusal::Length)), then [`FirstBlock`](Refusal::FirstBlock), then
+/// [`TooManySheets`](Refusal::TooManySheets), then [`ShortOutput`](Refusal::ShortOutput), where bytes or numbers are missing for a sheet, be it refused or not.
+///
+/// ```
+/// use sorzibelu::{live_class, Refusal, LIVE_BYTES};
+/// let m1 = sorzibelu::text::assemble("locals 1 user 1 parameters 1 references\nret t0\n")?;
+/// let m1 = Vec::try_from(&m1)?;
+/// // M1, a block alone, which is no sheet, and M1 again
+/// let class = [&m1[..], &[0; 512], &m1].concat();
+/// let (mut sets, mut answers) = (vec![7; 3 * LIVE_BYTES], [7; 3 * 3]);
+/// assert_eq!(live_class(&class, &mut sets, &mut answers), Ok(3));
+/// assert_eq!(answers, [0, 0, 3, 1, 0, 0, 0, 0, 3]);
+/// let m1_sets = [1, 0, 0, 0, 0, 0, 0, 0, 0, 0, 0, 0, 0, 0, 0, 0, 7];
+/// assert_eq!([0, 2].map(|k| sets[LIVE_BYTES * k..][..17] == m1_sets), [true; 2]);
+/// assert!(sets[LIVE_BYTES..2 * LIVE_BYTES].iter().all(|x| *x == 7));
+/// assert_eq!(live_class(&class, &mut sets[1..], &mut answers), Err(Refusal::ShortOutput));
+/// assert_eq!(live_class(&m1[512..], &mut sets, &mut answers), Err(Refusal::FirstBlock));
+/// # Ok::<(), Box<dyn std::error::Error>>(())
+/// ```
+pub fn live_class(sheets: &[u8], sets: &mut [u8], answers: &mut [u32]) -> Result<u32, Refusal> {
+    // SAFETY: the call reads `sheets` and reads and writes `sets` and `answers`, within their lengths; they are apart, since two of them are borrowed alone.
+    unpack(unsafe { ffi::sorzibelu_live_class(sheets.as_ptr(), sheets.len(), sets.as_mut_ptr(), sets.len(), answers.as_mut_ptr(), answers.len()) })
+}
+
 /// The rewritten sheet: how many bytes it has, and they at the front of `out`, which is lent [`MAX_SHEET_BYTES`](crate::MAX_SHEET_BYTES) or more.
 ///
 /// ```

@@ -4,6 +4,7 @@ unsafe extern "C" {
     pub fn sorzibelu_check(sheet: *const u8, len: usize) -> u64;
     pub fn sorzibelu_flow(sheet: *const u8, len: usize, table: *mut u16, room: usize) -> u64;
     pub fn sorzibelu_live(sheet: *const u8, len: usize, sets: *mut u8, room: usize) -> u64;
+    pub fn sorzibelu_live_class(sheets: *const u8, len: usize, sets: *mut u8, room: usize, answers: *mut u32, numbers: usize) -> u64;
     pub fn sorzibelu_rewrite(sheet: *const u8, len: usize, out: *mut u8, room: usize) -> u64;
     pub fn sorzibelu_renumber(sheet: *const u8, len: usize, out: *mut u8, room: usize) -> u64;
     pub fn sorzibelu_label(sheet: *const u8, len: usize, label: u32) -> u64;

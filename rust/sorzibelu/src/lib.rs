@@ -8,6 +8,7 @@
 //! | is this a sheet? | [`check`] | [`Sheet::try_from`](sheet::Sheet) |
 //! | its flow table | [`flow`] | [`blocks`] |
 //! | its live sets, and blocks taken | [`live`] | [`live_sets`] |
+//! | those of each sheet of a class set | [`live_class`] | [`class_live_sets`], [`class_sheets`] |
 //! | its rewriting | [`rewrite`] | [`rewritten`] |
 //! | it with its locals renumbered | [`renumber`] | [`renumbered`] |
 //! | is a label named, only defined, or undefined? | | [`label`], [`never_named`] |
@@ -17,16 +18,16 @@
 //! | which nodes die? | [`dying`] | [`dying_nodes`] |
 //!
 //! A refusal is a number of the paper's table and a place ([`Refusal`]), and leaves what was lent as it was; on acceptance only the answer is written.
-//! [`sheet::why`] and [`graph::why`] say in words which field, local or label is meant.
+//! [`sheet::why`], [`sheet::class_why`] and [`graph::why`] say in words which field, local or label is meant.
 //!
 //! # Stack
 //!
 //! The calls allocate nothing: their arrays are on the stack. A thread of [`STACK_BYTES`] is enough for every call but [`page`], and one of
 //! [`PAGE_STACK_BYTES`] for that; the main thread and the threads of `std` have more.
 //!
-//! | check | flow | live | rewrite | renumber | label | livelist | page | dying | in use, conditional |
-//! |---|---|---|---|---|---|---|---|---|---|
-//! | 16.1 KiB | 17.3 KiB | 189.5 KiB | 205.6 KiB | 45.3 KiB | 16.2 KiB | 205.6 KiB | 241.6 KiB | 9.3 KiB | below 1 KiB |
+//! | check | flow | live | live class | rewrite | renumber | label | livelist | page | dying | in use, conditional |
+//! |---|---|---|---|---|---|---|---|---|---|---|
+//! | 16.1 KiB | 17.3 KiB | 189.5 KiB | 189.7 KiB | 205.6 KiB | 45.3 KiB | 16.2 KiB | 205.6 KiB | 241.6 KiB | 9.3 KiB | below 1 KiB |
 #![warn(missing_docs)]
 mod calls;
 mod ffi;

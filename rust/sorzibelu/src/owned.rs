@@ -1,8 +1,8 @@
 //! The same answers as values: each makes what the call lends, and takes the answer out of it.
 use crate::{
     calls,
-    sheet::{Sheet, LABEL},
-    Graph, Lookup, Refusal, BYTES_PER_INSTRUCTION, FLOW_NUMBERS, LIVE_BYTES, MAX_NODES, MAX_SHEET_BYTES, NUMBERS_PER_BLOCK,
+    sheet::{Sheet, BLOCK, LABEL},
+    Graph, Lookup, Refusal, BYTES_PER_INSTRUCTION, FLOW_NUMBERS, LIVE_BYTES, MAX_CLASS_SHEETS, MAX_NODES, MAX_SHEET_BYTES, NUMBERS_PER_BLOCK, NUMBERS_PER_SHEET,
 };
 
 /// One row of the flow table.
@@ -71,11 +71,65 @@ pub struct LiveSets {
 pub fn live_sets(sheet: &[u8]) -> Result<LiveSets, Refusal> {
     let mut out = vec![0; LIVE_BYTES];
     let taken = calls::live(sheet, &mut out)?;
+    Ok(written(sheet, &out, taken))
+}
+
+/// The sets that were written for an accepted sheet.
+fn written(sheet: &[u8], out: &[u8], taken: u32) -> LiveSets {
     // an accepted sheet has its instruction count in bytes 4 and 5
     let n = u16::from_le_bytes([sheet[4], sheet[5]]) as usize;
     let word = |b: &[u8]| b.iter().rev().fold(0, |w, x| w << 8 | u64::from(*x));
     let sets = out.chunks_exact(BYTES_PER_INSTRUCTION).take(n).map(|s| Sets { before: word(&s[..8]), after: word(&s[8..]) });
-    Ok(LiveSets { sets: sets.collect(), taken })
+    LiveSets { sets: sets.collect(), taken }
+}
+
+/// The sheets of a class set: a sheet starts at each block whose number, its bytes 0 and 1, is 0, whatever else is wrong with that block.
+///
+/// Of any bytes: the parts laid end to end are the bytes again. So blocks in front of the first that is numbered 0 are a part of their own, the first one; a rest that
+/// is no whole block belongs to the last part; and no bytes have no part. [`live_class`](crate::live_class) refuses all three.
+///
+/// ```
+/// use sorzibelu::class_sheets;
+/// let class = [[0; 1_024], [1; 1_024], [0; 1_024]].concat();
+/// let blocks: Vec<usize> = class_sheets(&class).iter().map(|sheet| sheet.len() / 512).collect();
+/// assert_eq!(blocks, [1, 3, 1, 1]);
+/// assert_eq!(class_sheets(&class[1_024..4 * 512 + 9]).concat(), class[1_024..4 * 512 + 9]);
+/// ```
+pub fn class_sheets(sheets: &[u8]) -> Vec<&[u8]> {
+    let mut all = vec![];
+    let mut left = sheets;
+    while !left.is_empty() {
+        let next = left.chunks_exact(BLOCK).skip(1).position(|block| block[..2] == [0, 0]);
+        let (sheet, rest) = left.split_at(next.map_or(left.len(), |blocks| BLOCK * (1 + blocks)));
+        all.push(sheet);
+        left = rest;
+    }
+    all
+}
+
+/// The live sets of each sheet of a class set, or why that sheet is refused; and where the whole is refused, why. [`class_sheets`] gives the sheets.
+///
+/// ```
+/// use sorzibelu::{class_live_sets, live_sets, Refusal};
+/// let m1 = sorzibelu::text::assemble("locals 1 user 1 parameters 1 references\nret t0\n")?;
+/// let m1 = Vec::try_from(&m1)?;
+/// let answers = class_live_sets(&[&m1[..], &[0; 1_024], &m1].concat())?;
+/// assert_eq!(answers, [live_sets(&m1), Err(Refusal::Length), Err(Refusal::Length), live_sets(&m1)]);
+/// assert_eq!(class_live_sets(&[0; 17 * 512]), Err(Refusal::TooManySheets));
+/// # Ok::<(), Box<dyn std::error::Error>>(())
+/// ```
+pub fn class_live_sets(sheets: &[u8]) -> Result<Vec<Result<LiveSets, Refusal>>, Refusal> {
+    let parts = class_sheets(sheets);
+    // more are refused whatever is lent
+    let room = parts.len().min(MAX_CLASS_SHEETS);
+    let (mut sets, mut answers) = (vec![0; LIVE_BYTES * room], vec![0; NUMBERS_PER_SHEET * room]);
+    calls::live_class(sheets, &mut sets, &mut answers)?;
+    let lent = sets.chunks_exact(LIVE_BYTES).zip(answers.chunks_exact(NUMBERS_PER_SHEET));
+    let answer = |(sheet, (out, numbers)): (&&[u8], (&[u8], &[u32]))| match numbers[0] {
+        0 => Ok(written(sheet, out, numbers[2])),
+        number => Err(Refusal::of(number as u16, numbers[1] as u16)),
+    };
+    Ok(parts.iter().zip(lent).map(answer).collect())
 }
 
 /// The bytes of the rewritten sheet.

@@ -5,7 +5,7 @@ use std::fmt;
 #[derive(Clone, Copy, Debug, PartialEq, Eq, Hash)]
 #[non_exhaustive]
 pub enum Refusal {
-    /// 1: the length is no multiple of 512, below 1,024 or above 35,840.
+    /// 1: the length is no multiple of 512, below 1,024 or above 35,840; a class set's is zero or no multiple of 512.
     Length,
     /// 2: the block's number or check is wrong, or bytes 4 to 31 of a later block are not zero.
     Block(u16),
@@ -35,6 +35,10 @@ pub enum Refusal {
     AskedNode,
     /// 15: the IsParent or WriteBack hides a local in its payload, where renumbering does not reach it.
     HiddenLocal(u16),
+    /// 16: the number of a class set's first block is not 0.
+    FirstBlock,
+    /// 17: a class set has more than 16 sheets.
+    TooManySheets,
     /// A number that this version does not know, and its place: the archive is newer than the crate.
     Other(u16, u16),
 }
@@ -60,6 +64,8 @@ impl Refusal {
             13 => Triple(place),
             14 => AskedNode,
             15 => HiddenLocal(place),
+            16 => FirstBlock,
+            17 => TooManySheets,
             _ => Other(number, place),
         }
     }
@@ -82,6 +88,8 @@ impl Refusal {
             Triple(_) => 13,
             AskedNode => 14,
             HiddenLocal(_) => 15,
+            FirstBlock => 16,
+            TooManySheets => 17,
             Other(number, _) => number,
         }
     }
@@ -89,7 +97,7 @@ impl Refusal {
     /// Its place, 0 where the row has none.
     pub fn place(self) -> u16 {
         match self {
-            Length | Heading | ShortOutput | NumbersRunOut | CodeTooLong | AskedNode => 0,
+            Length | Heading | ShortOutput | NumbersRunOut | CodeTooLong | AskedNode | FirstBlock | TooManySheets => 0,
             Block(p) | Record(p) | Local(p) | RepeatedLabel(p) | MissingLabel(p) | FallsPastEnd(p) | Nodes(p) | Triple(p) | HiddenLocal(p) => p,
             Other(_, place) => place,
         }
@@ -117,6 +125,8 @@ impl fmt::Display for Refusal {
             Triple(p) => write!(f, "graph {}, triple {}: a node is not below the count, or the triple is not above the one before it", p / 1000 + 1, p % 1000),
             AskedNode => write!(f, "the asked node is not below the node count"),
             HiddenLocal(p) => write!(f, "offset {p}: an IsParent or WriteBack hides a local in its payload, where renumbering does not reach it"),
+            FirstBlock => write!(f, "the number of the first block is not 0"),
+            TooManySheets => write!(f, "a class set has more than 16 sheets"),
             Other(..) => write!(f, "a number that this version does not know"),
         }
     }

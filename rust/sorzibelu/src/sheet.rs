@@ -12,7 +12,7 @@
 use crate::{check, Refusal, MAX_INSTRUCTIONS, MAX_LIST, MAX_SHEET_BYTES};
 use std::fmt;
 
-pub use crate::why::sheet as why;
+pub use crate::why::{class as class_why, sheet as why};
 
 /// Bytes of a block.
 pub const BLOCK: usize = 512;

@@ -1,4 +1,4 @@
-//! Every size that a caller needs, as document 01 has them.
+//! Every size that a caller needs, as documents 01 and 02 have them.
 
 /// The most instructions that a sheet has.
 pub const MAX_INSTRUCTIONS: usize = 1_024;
@@ -16,8 +16,12 @@ pub const NUMBERS_PER_BLOCK: usize = 6;
 pub const FLOW_NUMBERS: usize = NUMBERS_PER_BLOCK * MAX_INSTRUCTIONS;
 /// What [`live`](crate::live) writes for one instruction.
 pub const BYTES_PER_INSTRUCTION: usize = 16;
-/// Enough for the live sets of every sheet.
+/// Enough for the live sets of every sheet; what [`live_class`](crate::live_class) is lent for each.
 pub const LIVE_BYTES: usize = BYTES_PER_INSTRUCTION * MAX_INSTRUCTIONS;
+/// The most sheets of a class set.
+pub const MAX_CLASS_SHEETS: usize = 16;
+/// What [`live_class`](crate::live_class) writes for each sheet: number, place, and how many blocks were taken.
+pub const NUMBERS_PER_SHEET: usize = 3;
 /// The most nodes of a borrow graph; [`dying`](crate::dying) lists each once at most.
 pub const MAX_NODES: usize = 64;
 /// The most triples of a borrow graph.

@@ -1,5 +1,5 @@
 //! Refusals in words: which field, local or label is meant, read off the bytes or the graphs that were refused.
-use crate::{sheet::*, Graph, Refusal, MAX_NODES, MAX_TRIPLES};
+use crate::{class_sheets, sheet::*, Graph, Refusal, MAX_CLASS_SHEETS, MAX_NODES, MAX_TRIPLES};
 
 /// Why a call refused these bytes, in words.
 ///
@@ -26,6 +26,23 @@ pub fn sheet(bytes: &[u8], refusal: Refusal) -> String {
         _ => None,
     };
     said.unwrap_or_else(|| general(refusal))
+}
+
+/// Why a whole class set was refused, in words. For one of its sheets it is [`why`].
+///
+/// ```
+/// use sorzibelu::{class_live_sets, sheet::class_why};
+/// let refusal = class_live_sets(&[0; 17 * 512]).unwrap_err();
+/// assert_eq!(class_why(&[0; 17 * 512], refusal), "17 sheets, and a class set has 16 at most");
+/// ```
+pub fn class(bytes: &[u8], refusal: Refusal) -> String {
+    match refusal {
+        Refusal::Length if bytes.is_empty() => "the class set is empty".into(),
+        Refusal::Length => format!("the class set has {} bytes, which is no multiple of 512", bytes.len()),
+        Refusal::FirstBlock => format!("the number of the first block is {} and should be 0", u16_at(bytes, 0).unwrap_or(0)),
+        Refusal::TooManySheets => format!("{} sheets, and a class set has {MAX_CLASS_SHEETS} at most", class_sheets(bytes).len()),
+        _ => general(refusal),
+    }
 }
 
 /// Why a call refused a graph, or a pair of graphs, in words. `asked` is the node that was asked about, if one was.

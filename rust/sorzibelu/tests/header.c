@@ -23,11 +23,14 @@ static void same(const char *what, const void *a, const void *b, size_t n) {
 static uint8_t m1[1024], out[SORZIBELU_MAX_SHEET_BYTES], sets[SORZIBELU_LIVE_BYTES];
 static uint8_t text[SORZIBELU_PAGE_BYTES];
 static uint16_t table[SORZIBELU_FLOW_NUMBERS];
+static uint8_t two[2048], class_sets[2 * SORZIBELU_LIVE_BYTES];
 
 int main(void) {
     static const uint32_t chain[6] = {0, 1, 0, 1, 2, 0};
     static const uint16_t row[6] = {0, 0, 2, 1, 0, 0};
-    static const uint8_t before[16] = {1}, order[3] = {2, 1, 0};
+    static const uint8_t before[17] = {1}, order[3] = {2, 1, 0};
+    static const uint32_t both[7] = {0, 0, 3, 0, 0, 3, 7}, second[7] = {SORZIBELU_BLOCK, 1, 0, 0, 0, 3, 7};
+    uint32_t answers[2 * SORZIBELU_NUMBERS_PER_SHEET + 1] = {7, 7, 7, 7, 7, 7, 7};
     uint8_t nodes[SORZIBELU_MAX_NODES] = {0};
     /* n, locals, user locals, parameters; the Ret of local 0; numbers and checks */
     m1[4] = m1[6] = m1[8] = m1[10] = 1;
@@ -41,6 +44,12 @@ int main(void) {
     same("flow", table, row, sizeof row);
     is("live", sorzibelu_live(m1, 1024, sets, sizeof sets), 0, 3);
     same("live", sets, before, 16);
+    memcpy(two, m1, 1024);
+    memcpy(two + 1024, m1, 1024);
+    is("class set", sorzibelu_live_class(two, 2048, class_sets, sizeof class_sets, answers, 6), 0, 2);
+    same("class set, numbers", answers, both, sizeof both);
+    same("class set, sheet 0", class_sets, before, 17);
+    same("class set, sheet 1", class_sets + SORZIBELU_LIVE_BYTES, before, 17);
     is("rewrite", sorzibelu_rewrite(m1, 1024, out, sizeof out), 0, 1024);
     same("rewrite", out, m1, 1024);
     is("renumber", sorzibelu_renumber(m1, 1024, out, sizeof out), 0, 1024);
@@ -56,6 +65,9 @@ int main(void) {
     is("no sheet, no table", sorzibelu_flow(NULL, 0, NULL, 0), SORZIBELU_LENGTH, 0);
     is("no table", sorzibelu_flow(m1, 1024, NULL, 0), SORZIBELU_SHORT_OUTPUT, 0);
     is("no sets", sorzibelu_live(m1, 1024, NULL, 0), SORZIBELU_SHORT_OUTPUT, 0);
+    is("no class set", sorzibelu_live_class(NULL, 0, NULL, 0, NULL, 0), SORZIBELU_LENGTH, 0);
+    is("no class sets", sorzibelu_live_class(two, 2048, NULL, 0, answers, 6), SORZIBELU_SHORT_OUTPUT, 0);
+    is("no numbers", sorzibelu_live_class(two, 2048, class_sets, sizeof class_sets, NULL, 0), SORZIBELU_SHORT_OUTPUT, 0);
     is("no output", sorzibelu_rewrite(m1, 1024, NULL, 0), SORZIBELU_SHORT_OUTPUT, 0);
     is("no output", sorzibelu_renumber(m1, 1024, NULL, 0), SORZIBELU_SHORT_OUTPUT, 0);
     is("no sheet, no output", sorzibelu_renumber(NULL, 0, NULL, 0), SORZIBELU_LENGTH, 0);
@@ -66,6 +78,12 @@ int main(void) {
     /* places */
     m1[514]++;
     is("a wrong check", sorzibelu_check(m1, 1024), SORZIBELU_BLOCK, 1);
+    two[514]++;
+    is("a wrong check in a class set", sorzibelu_live_class(two, 2048, class_sets, sizeof class_sets, answers, 6), 0, 2);
+    same("a wrong check in a class set", answers, second, sizeof second);
+    is("a later block first", sorzibelu_live_class(two + 512, 1024, class_sets, sizeof class_sets, answers, 6), SORZIBELU_FIRST_BLOCK, 0);
+    is("1,000 bytes", sorzibelu_live_class(two, 1000, class_sets, sizeof class_sets, answers, 6), SORZIBELU_LENGTH, 0);
+    is("68 sheets", sorzibelu_live_class(out + 1024, sizeof out - 1024, class_sets, sizeof class_sets, answers, 6), SORZIBELU_TOO_MANY_SHEETS, 0);
     is("two numbers", sorzibelu_dying(3, 4, chain, 6, 3, 0, chain, 2, nodes, sizeof nodes), SORZIBELU_TRIPLE, 1300);
 
     /* texts */

@@ -2,7 +2,7 @@
 //! Rust as well, over a pipe whose own cost is measured in the same rounds and taken off. `bench families` only says how many blocks each looped sheet takes; `bench repeat SHEET` only runs
 //! live on a sheet of the table 20,000 times, for a profiler.
 use harness::{masks, oracle::*, plain, random, random::Rng, Bytes};
-use sorzibelu::{check, conditional, dying, flow, in_use, live, renumber, rewrite, sheet::*, Graph, Lookup};
+use sorzibelu::{check, conditional, dying, flow, in_use, live, live_class, renumber, rewrite, sheet::*, Graph, Lookup, LIVE_BYTES, MAX_CLASS_SHEETS, NUMBERS_PER_SHEET};
 use std::{hint::black_box, process::Child, time::Instant};
 
 const ROUNDS: usize = 200;
@@ -205,6 +205,20 @@ fn row<'a>(name: &str, proved: Call<'a>, small: Option<Call<'a>>, tabled: Option
     println!("| {name} | {} |", cells.map(cell).join(" | "));
 }
 
+/// 16 sheets in one class set beside 16 calls of live over the same bytes, each into bytes of its own.
+fn class_row(name: &str, sheets: &[&Sheet]) {
+    let each: Vec<Vec<u8>> = sheets.iter().cycle().take(MAX_CLASS_SHEETS).map(|s| s.bytes()).collect();
+    let class = each.concat();
+    let (mut sets, mut answers) = (vec![0; LIVE_BYTES * each.len()], vec![0; NUMBERS_PER_SHEET * each.len()]);
+    let mut other = sets.clone();
+    let t = times(&mut [
+        call(|| live_class(black_box(&class), &mut sets, &mut answers)),
+        call(|| class.chunks(class.len() / each.len()).zip(other.chunks_mut(LIVE_BYTES)).map(|(s, out)| live(black_box(s), out).unwrap()).sum::<u32>()),
+    ]);
+    assert!(sets == other && answers.chunks(NUMBERS_PER_SHEET).all(|a| a[0] == 0));
+    println!("| {name} | {} |", [t[0], t[1], t[0] / t[1]].map(|x| cell(Some(x))).join(" | "));
+}
+
 fn main() {
     let word = std::env::args().nth(1);
     let all = families();
@@ -323,4 +337,10 @@ fn main() {
     graphs("conditional, the same", call(|| conditional(black_box(l), 0)), CONDITIONAL, asked(l, 0));
     graphs("dying, the same, nothing live next", call(|| dying(black_box(l), black_box(gone), &mut rest)), DYING, [payload(l), payload(gone)].concat());
     graphs("in use, a chain of 40 doubled triples", call(|| in_use(black_box(d), 0)), IN_USE, asked(d, 0));
+
+    println!("\n| Class set of 16 sheets | One call | 16 calls of live | Ratio |\n|---|---|---|---|");
+    let [straight, labels, looped, branches, ..] = [0, 1, 2, 3].map(|i| &sheets[i].1);
+    class_row("straight", &[straight]);
+    class_row("looped by Calls", &[looped]);
+    class_row("straight, 300 Labels, looped by Calls and by Branches in turn", &[straight, labels, looped, branches]);
 }

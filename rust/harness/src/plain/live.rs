@@ -155,3 +155,8 @@ pub fn live(code: &[Instruction]) -> (Vec<(u64, u64)>, u32) {
     }
     (sets, taken)
 }
+
+/// The sets as live writes them: 8 bytes of before, then 8 of after.
+pub fn set_bytes(sets: &[(u64, u64)]) -> Vec<u8> {
+    sets.iter().flat_map(|(b, a)| [b.to_le_bytes(), a.to_le_bytes()].concat()).collect()
+}

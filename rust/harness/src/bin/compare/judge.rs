@@ -26,6 +26,7 @@ pub struct Run {
     /// Graph questions that the original would not finish.
     pub unfinished: usize,
     pub smallest_sheet: Option<Vec<u8>>,
+    pub smallest_class: Option<Vec<u8>>,
     pub smallest_graphs: Option<(Owned, Owned)>,
 }
 
@@ -77,10 +78,6 @@ pub fn theirs(a: &Answer) -> Answered<Vec<u8>> {
 
 pub fn bytes(table: &[u16]) -> Vec<u8> {
     table.iter().flat_map(|x| x.to_le_bytes()).collect()
-}
-
-pub fn set_bytes(sets: &[(u64, u64)]) -> Vec<u8> {
-    sets.iter().flat_map(|(b, a)| [b.to_le_bytes(), a.to_le_bytes()].concat()).collect()
 }
 
 impl Run {

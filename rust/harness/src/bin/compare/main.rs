@@ -4,14 +4,16 @@
 //!
 //! a: every sheet of up to five instructions over small alphabets, up to six where COUNT is 20,000 or more. b: random sheets, sheets moved
 //! to the edges of 10 and 11, sheets with locals that nothing mentions, one that keeps the work list full. c: damaged copies. d: graphs without and with cycles, broken ones.
-//! e: every call with lent output exact, short, empty and long, between guards. f: in each accepted sheet every label, and numbers that no Label has.
-//! The smallest sheet or graph with a difference is made smaller and printed with both answers; the status is then 1.
+//! e: every call with lent output exact, short, empty and long, between guards. f: in each accepted sheet every label, and numbers that no Label has. g: class sets of the
+//! sheets of b and c. The smallest sheet, graph or class set with a difference is made smaller and printed with both answers; the status is then 1.
+mod classes;
 mod graphs;
 mod judge;
 mod sheets;
 mod small;
 
-use harness::{Bytes, graphs as random_graphs, oracle::*, plain, random, random::Rng};
+use classes::Classes;
+use harness::{Bytes, classes as random_classes, graphs as random_graphs, oracle::*, plain, random, random::Rng};
 use judge::{Part, Run};
 use small::{MIDDLE, NARROW, NUMBERED, WIDE, every, every_numbering};
 use sorzibelu::graph::Owned;
@@ -48,14 +50,18 @@ fn small_sheets(run: &mut Run, more: usize) {
     );
 }
 
-/// b, c and d of one seed; whether every refusal was met.
+/// b, c, g and d of one seed; whether every refusal was met.
 fn random_ones(run: &mut Run, count: usize, seed: u64) -> bool {
     let mut rng = Rng::new(seed);
     println!("seed {seed}, {count} random sheets");
     let start = Instant::now();
 
-    let (mut b, mut c) = (Part::default(), Part::default());
-    run.sheets(&mut b, &[random::fullest().bytes()]);
+    let (mut b, mut c, mut g) = (Part::default(), Part::default(), Classes::default());
+    // of its own, so that the sheets and graphs of a seed stay what they were
+    let mut mixing = Rng::new(!seed);
+    let fullest = random::fullest().bytes();
+    run.class_set(&mut g, &fullest.repeat(2));
+    run.sheets(&mut b, &[fullest]);
     let mut left = count;
     while left > 0 {
         let batch = left.min(50);
@@ -74,9 +80,30 @@ fn random_ones(run: &mut Run, count: usize, seed: u64) -> bool {
         }
         run.sheets(&mut b, &sheets);
         run.sheets(&mut c, &damaged);
+        damaged.retain(|s| random_classes::fits(s));
+        for _ in 0..batch.div_ceil(5) {
+            let many = random_classes::count(&mut mixing);
+            let class = random_classes::class(&mut mixing, many, |rng| {
+                let some = if damaged.is_empty() || rng.chance(2) { &sheets } else { &damaged };
+                &some[rng.below(some.len())]
+            });
+            run.class_set(&mut g, &class);
+        }
     }
     println!("b  random sheets: {} sheets, {} questions to the original; rewriting or renumbering refused{}; {} differences", b.sheets, b.questions, met(&b), b.differences);
     println!("c  damaged sheets: {} sheets, refused{}; {} differences ({} s)", c.sheets, met(&c), c.differences, start.elapsed().as_secs());
+
+    println!(
+        "g  class sets: {} class sets, {} answered, refused{}; their {} sheets: {} accepted, refused{}; {} questions to the original; {} differences",
+        g.whole.sheets,
+        g.whole.accepted,
+        met(&g.whole),
+        g.each.sheets,
+        g.each.accepted,
+        met(&g.each),
+        g.each.questions,
+        g.whole.differences
+    );
 
     // all graphs of three nodes and single edges, cycles and self-loops among them, each with one next
     let start = Instant::now();
@@ -115,7 +142,9 @@ fn random_ones(run: &mut Run, count: usize, seed: u64) -> bool {
         start.elapsed().as_secs()
     );
     let mut fine = true;
-    for (part, name, numbers) in [(&b, "b", 10..12), (&b, "b", 15..16), (&c, "c", 1..9), (&d, "d", 12..15), (&d, "d", 9..10)] {
+    let classes = [1..2, 9..10, 16..18].map(|numbers| (&g.whole, "g", numbers));
+    let others = [(&b, "b", 10..12), (&b, "b", 15..16), (&c, "c", 1..9), (&d, "d", 12..15), (&d, "d", 9..10), (&g.each, "a sheet of g", 1..9)];
+    for (part, name, numbers) in others.into_iter().chain(classes) {
         for number in numbers.filter(|number| !part.met.contains_key(number)) {
             println!("refusal {number} was not met in {name}: a larger COUNT is needed");
             fine = false;
@@ -125,7 +154,7 @@ fn random_ones(run: &mut Run, count: usize, seed: u64) -> bool {
 }
 
 fn compare(oracle: Child, count: usize, seeds: &[u64]) -> bool {
-    let mut run = Run { oracle, turn: 0, rooms: [0; 4], ways: [0; 3], unfinished: 0, smallest_sheet: None, smallest_graphs: None };
+    let mut run = Run { oracle, turn: 0, rooms: [0; 4], ways: [0; 3], unfinished: 0, smallest_sheet: None, smallest_class: None, smallest_graphs: None };
     small_sheets(&mut run, usize::from(count >= 20_000));
     let mut fine = true;
     for seed in seeds {
@@ -137,6 +166,10 @@ fn compare(oracle: Child, count: usize, seeds: &[u64]) -> bool {
     println!("f  labels looked up: named {named}, never named {unnamed}, undefined {undefined} times");
     if let Some(s) = run.smallest_sheet.take() {
         run.print_sheet(&s);
+        fine = false;
+    }
+    if let Some(s) = run.smallest_class.take() {
+        run.print_class(&s);
         fine = false;
     }
     if let Some(found) = run.smallest_graphs.take() {

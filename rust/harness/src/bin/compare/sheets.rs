@@ -34,7 +34,7 @@ impl Run {
         let there = theirs(&answers[1]);
         let (sets, taken) = plain::live(&sheet.code);
         let with_count = |sets: Vec<u8>, taken: u32| [sets, taken.to_le_bytes().to_vec()].concat();
-        same_as("live; here the plain reading, there the original", Ok(with_count(set_bytes(&sets), taken)), there.clone(), show_sets)?;
+        same_as("live; here the plain reading, there the original", Ok(with_count(plain::set_bytes(&sets), taken)), there.clone(), show_sets)?;
         for (room, wanted) in self.rooms(16 * n, &there) {
             let (answer, wrote) = lend(room, turn, |_| 16 * n, |t| live(s, t))?;
             same_as(&format!("live, {room} bytes lent"), answer.map(|taken| with_count(wrote, taken)), wanted, show_sets)?;
