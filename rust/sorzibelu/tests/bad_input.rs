@@ -20,8 +20,9 @@ fn words_that_are_wrong() {
     trouble(&["renumber", "-o"], "nothing stands behind -o");
     trouble(&["renumber"], "no file is named; usage: sorzibelu renumber [-o SHEET] FILE");
     trouble(&["label"], "no file is named; usage: sorzibelu label FILE [LABEL]");
+    trouble(&["live-class"], "no file is named; usage: sorzibelu live-class FILE ..");
     trouble(&["dying"], "no file is named");
-    for words in [&["dying", "-", "-"][..], &["mark", "-", "-"], &["mark", &stored("m2.txt"), "-", "-"], &["dying", "--", "-", "-"]] {
+    for words in [&["dying", "-", "-"][..], &["live-class", "-", "-"], &["mark", "-", "-"], &["mark", &stored("m2.txt"), "-", "-"], &["dying", "--", "-", "-"]] {
         trouble(words, "- stands twice, and standard input can be read once");
     }
 }
@@ -30,7 +31,7 @@ fn words_that_are_wrong() {
 fn files_that_cannot_be_read() {
     let dir = folder("unread");
     let (missing, here) = (dir.join("missing").display().to_string(), dir.display().to_string());
-    for command in ["page", "live", "flow", "rewrite", "renumber", "label", "check", "assemble", "list", "in-use", "conditional", "dying"] {
+    for command in ["page", "live", "live-class", "flow", "rewrite", "renumber", "label", "check", "assemble", "list", "in-use", "conditional", "dying"] {
         trouble(&[command, &missing], &format!("{missing}: No such file"));
         trouble(&[command, &here], &format!("{here}: Is a directory"));
     }
@@ -40,7 +41,9 @@ fn files_that_cannot_be_read() {
     trouble(&["assemble", "/dev/null"], "the file is empty");
     trouble(&["in-use", "/dev/null"], "the file is empty");
     // an endless one
-    trouble(&["check", "/dev/zero"], "/dev/zero: more than 64 MiB");
+    for command in ["check", "live-class"] {
+        trouble(&[command, "/dev/zero"], "/dev/zero: more than 64 MiB, which is no sheet, no class set and no text of one");
+    }
 }
 
 #[test]
@@ -99,7 +102,7 @@ fn every_fault_of_a_text_at_once() {
 fn output_that_cannot_be_written() {
     let m6 = stored("m6.txt");
     let (m2, m7, second) = (stored("m2.txt"), stored("m7.txt"), stored("answers/second.txt"));
-    let mut all: Vec<Vec<&str>> = ["page", "live", "flow", "rewrite", "renumber", "label", "check", "list", "assemble"].iter().map(|c| vec![*c, &m6]).collect();
+    let mut all: Vec<Vec<&str>> = ["page", "live", "live-class", "flow", "rewrite", "renumber", "label", "check", "list", "assemble"].iter().map(|c| vec![*c, &m6]).collect();
     all.extend(["page", "check", "in-use", "conditional", "dying"].iter().map(|c| vec![*c, &m7]));
     all.extend([vec!["check", "--help"], vec!["mark", &m2, &second], vec!["mark", "--csv", &m2, &second]]);
     for words in &all {
@@ -123,7 +126,7 @@ fn output_that_cannot_be_written() {
 #[test]
 fn a_closed_pipe_ends_quietly() {
     let (m6, kind12, m7) = (stored("m6.txt"), stored("kind12.sheet"), stored("m7.txt"));
-    let long: Vec<Vec<&str>> = ["page", "live", "flow", "rewrite", "renumber", "label", "list", "assemble"].iter().map(|c| vec![*c, &m6]).collect();
+    let long: Vec<Vec<&str>> = ["page", "live", "live-class", "flow", "rewrite", "renumber", "label", "list", "assemble"].iter().map(|c| vec![*c, &m6]).collect();
     for words in long.into_iter().chain([vec!["check", &kind12], vec!["page", &m7], vec!["dying", &m7], vec!["mark", &m6, &m6], vec!["flow", "--help"]]) {
         let (reader, writer) = std::io::pipe().unwrap();
         drop(reader);

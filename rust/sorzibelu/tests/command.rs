@@ -3,7 +3,7 @@ mod common;
 use common::*;
 use std::fs;
 
-const COMMANDS: [&str; 13] = ["page", "live", "flow", "rewrite", "renumber", "label", "check", "assemble", "list", "mark", "in-use", "conditional", "dying"];
+const COMMANDS: [&str; 14] = ["page", "live", "live-class", "flow", "rewrite", "renumber", "label", "check", "assemble", "list", "mark", "in-use", "conditional", "dying"];
 
 /// The sheets that are stored as text, as bytes and with their page.
 const PAGES: [&str; 7] = ["m1", "m2", "m3", "m4", "m5", "m6", "unnamed"];
@@ -14,7 +14,7 @@ fn text_or_bytes_whatever_the_name() {
     let (text, bytes) = (fs::read(stored("m6.txt")).unwrap(), fs::read(stored("m6.sheet")).unwrap());
     let swapped = [file(&dir, "m6.sheet", &text), file(&dir, "m6.txt", &bytes)];
     let with_mark = file(&dir, "mark", [&[0xef, 0xbb, 0xbf], &text[..]].concat());
-    for command in ["page", "live", "flow", "rewrite", "renumber", "label", "check", "list"] {
+    for command in ["page", "live", "live-class", "flow", "rewrite", "renumber", "label", "check", "list"] {
         let wanted = run(&[command, &stored("m6.txt")]);
         assert_eq!(wanted.0, 0);
         for other in [&stored("m6.sheet"), &swapped[0], &swapped[1], &with_mark] {
@@ -180,6 +180,56 @@ fn labels_in_words() {
     trouble(&["label", &stored("m2.txt"), "-1"], "'-1' is no option here");
     trouble(&["label", &stored("m2.txt"), "L1", "L2"], "'L2' is one word too many");
     trouble(&["label", &stored("m7.txt")], "a graph, where a sheet should stand");
+}
+
+/// A class set as one file, and as the files of its sheets; a refused sheet is told in its line, and stops no other.
+#[test]
+fn class_sets_in_words() {
+    let dir = folder("classes");
+    let table = fs::read_to_string(stored("class.table")).unwrap();
+    answered(&["live-class", &stored("class.sheets")], &table);
+    assert_eq!(fed(&["live-class", "-"], &fs::read(stored("class.sheets")).unwrap()).1, table);
+    // each sheet as its own file, as bytes or as text: the same lines, with their files and the lines of a text
+    let names = ["m1.sheet", "m2.txt", "kind12.txt", "m3.sheet", "m6.txt"].map(stored);
+    let mut told = table.replace("; offset 0", "; line 3, offset 0");
+    for (k, name) in names.iter().enumerate() {
+        told = told.replace(&format!("sheet {k}:"), &format!("sheet {k} from {name}:"));
+    }
+    let words: Vec<&str> = ["live-class"].into_iter().chain(names.iter().map(|n| &n[..])).collect();
+    answered(&words, &told);
+    // a class set and a sheet, one of them from standard input
+    let m1 = fs::read(stored("m1.txt")).unwrap();
+    let (status, out, _) = fed(&["live-class", &stored("class.sheets"), "-"], &m1);
+    assert_eq!((status, out.lines().count()), (0, 7));
+    assert!(out.ends_with("\nsheet 5 from standard input: blocks 10 to 11, accepted, 1 instruction, taken 3\n6 sheets: 5 accepted, 1 refused\n"), "{out}");
+    answered(&["live-class", &stored("m1.txt")], "sheet 0: blocks 0 to 1, accepted, 1 instruction, taken 3\n1 sheet: 1 accepted, 0 refused\n");
+    // a later block numbered 0 cuts a sheet, a heading numbered otherwise glues its sheet onto the one before it
+    let (m1, m2) = (fs::read(stored("m1.sheet")).unwrap(), fs::read(stored("m2.sheet")).unwrap());
+    let (mut cut, mut glued) = (m2.clone(), m2.clone());
+    cut[512] = 0;
+    glued[0] = 7;
+    let says = |block: u8| format!("block {block}, refused 1 0, taken 0; the sheet has 512 bytes, and the shortest has 1,024\n");
+    answered(&["live-class", &file(&dir, "cut", cut)], &format!("sheet 0: {}sheet 1: {}2 sheets: 0 accepted, 2 refused\n", says(0), says(1)));
+    let (m1, glued) = (file(&dir, "m1", m1), file(&dir, "glued", glued));
+    let says = "blocks 0 to 3, refused 2 2, taken 0; block 2: its number is 7 and should be 2\n1 sheet: 0 accepted, 1 refused\n";
+    answered(&["live-class", &m1, &glued], &format!("sheet 0 from {m1} and {glued}: {says}"));
+    // a file without bytes gives nothing
+    assert_eq!(run(&["live-class", &m1, "/dev/null", &m1]).1.lines().next_back(), Some("2 sheets: 2 accepted, 0 refused"));
+}
+
+/// The whole is refused: the paper's line, and what it means.
+#[test]
+fn refused_class_sets() {
+    let dir = folder("refused_classes");
+    let m1 = stored("m1.sheet");
+    let sheets = |count: usize| [vec!["live-class"], vec![&m1[..]; count]].concat();
+    assert_eq!(run(&sheets(16)).1.lines().next_back(), Some("16 sheets: 16 accepted, 0 refused"));
+    refused(&sheets(17), "refused 17 0\n17 sheets, and a class set has 16 at most\n");
+    refused(&["live-class", &file(&dir, "zeros", vec![0; 40 * 512])], "refused 17 0\n40 sheets, and a class set has 16 at most\n");
+    refused(&["live-class", "/dev/null"], "refused 1 0\nthe class set is empty\n");
+    refused(&["live-class", &file(&dir, "short", [0; 1_000])], "refused 1 0\nthe class set has 1000 bytes, which is no multiple of 512\n");
+    refused(&["live-class", &file(&dir, "later", [1; 1_024]), &m1], "refused 16 0\nthe number of the first block is 257 and should be 0\n");
+    trouble(&["live-class", &m1, &stored("m7.txt")], "m7.txt: a graph, where a sheet should stand");
 }
 
 #[test]

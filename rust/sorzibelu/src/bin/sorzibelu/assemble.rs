@@ -1,7 +1,7 @@
 //! `assemble [--unchecked] [-o SHEET] FILE`.
 use crate::{
     input,
-    output::{complain, put, write_file, End, Status},
+    output::{complain, put, refused, write_file, End, Status},
     words::Words,
     Command,
 };
@@ -32,7 +32,7 @@ fn run(mut words: Words) -> Result<Status, End> {
     match (sorzibelu::check(&given.bytes), to) {
         (Err(r), Some(_)) if !unchecked => given.refuse(r),
         (Err(r), None) if !unchecked => {
-            complain(given.refused(r).trim_end());
+            complain(refused(r, &given.why(r)).trim_end());
             Ok(Status::Refused)
         }
         (_, Some(to)) => write_file(Path::new(&to), &given.bytes).map(|()| Status::Answered),

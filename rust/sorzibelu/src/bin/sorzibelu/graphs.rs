@@ -1,7 +1,7 @@
 //! `in-use FILE [NODE]`, `conditional FILE [NODE]` and `dying THIS NEXT`, or `dying PAIR`.
 use crate::{
     input,
-    output::{print, put, End, Status},
+    output::{self, print, End, Status},
     words::Words,
     Command,
 };
@@ -41,8 +41,7 @@ pub const DYING: Command = Command {
 pub fn refuse(written: &Written, asked: Option<u32>, refusal: Refusal) -> Result<Status, End> {
     let graphs: Vec<_> = [Some(written.this()), written.next()].into_iter().flatten().map(Owned::graph).collect();
     let line = if refusal.number() == 14 { String::new() } else { format!("line {}, ", written.fault(refusal).line) };
-    let said = format!("refused {} {}\n{line}{}\n", refusal.number(), refusal.place(), graph::why(&graphs, asked, refusal));
-    put(said.as_bytes()).map(|()| Status::Refused)
+    output::refuse(refusal, &(line + &graph::why(&graphs, asked, refusal)))
 }
 
 fn asked(words: Words, line: fn(&Owned, u32) -> Result<String, Refusal>) -> Result<Status, End> {

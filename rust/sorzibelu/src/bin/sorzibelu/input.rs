@@ -1,5 +1,5 @@
 //! What is read: a file or standard input, a sheet's bytes or its text, a graph or a pair.
-use crate::output::{put, End, Status};
+use crate::output::{self, End, Status};
 use sorzibelu::{
     graph, sheet,
     text::{self, Faults},
@@ -11,7 +11,7 @@ use std::{
     path::Path,
 };
 
-/// No sheet and no text of one is longer.
+/// No sheet, no 16 of them and no text of one is longer.
 const MOST: u64 = 64 << 20;
 
 /// How a file is called in what is said about it.
@@ -38,7 +38,7 @@ pub fn read(file: &Path) -> Result<Vec<u8>, End> {
     let mut bytes = vec![];
     from.take(MOST + 1).read_to_end(&mut bytes).map_err(|e| trouble(file, e))?;
     if bytes.len() as u64 > MOST {
-        return Err(trouble(file, "more than 64 MiB, which is no sheet and no text of one"));
+        return Err(trouble(file, "more than 64 MiB, which is no sheet, no class set and no text of one"));
     }
     Ok(bytes)
 }
@@ -106,18 +106,18 @@ pub fn of_text(file: &Path, text: &str) -> Result<Given, End> {
 }
 
 impl Given {
-    /// What is printed for a refusal: the paper's line, and what it means, with the line of the text where there is one.
-    pub fn refused(&self, refusal: Refusal) -> String {
+    /// What a refusal means, with the line of the text where there is one.
+    pub fn why(&self, refusal: Refusal) -> String {
         let line = match (&self.text, refusal.number()) {
             (Some(written), 2..=8 | 15) => format!("line {}, ", written.fault(refusal).line),
             _ => String::new(),
         };
-        format!("refused {} {}\n{line}{}\n", refusal.number(), refusal.place(), sheet::why(&self.bytes, refusal))
+        line + &sheet::why(&self.bytes, refusal)
     }
 
-    /// Prints it.
+    /// Prints a refusal.
     pub fn refuse(&self, refusal: Refusal) -> Result<Status, End> {
-        put(self.refused(refusal).as_bytes()).map(|()| Status::Refused)
+        output::refuse(refusal, &self.why(refusal))
     }
 }
 

@@ -8,6 +8,7 @@ mod help;
 mod input;
 mod label;
 mod list;
+mod live_class;
 mod mark;
 mod output;
 mod renumber;
@@ -34,6 +35,7 @@ pub struct Command {
 const COMMANDS: &[&Command] = &[
     &texts::PAGE,
     &texts::LIVE,
+    &live_class::COMMAND,
     &flow::COMMAND,
     &rewrite::COMMAND,
     &renumber::COMMAND,

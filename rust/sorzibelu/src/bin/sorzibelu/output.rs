@@ -1,4 +1,5 @@
 //! What is written, and how the command ends.
+use sorzibelu::Refusal;
 use std::{
     ffi::OsStr,
     fs,
@@ -50,6 +51,16 @@ pub fn put(bytes: &[u8]) -> Result<(), End> {
 /// A text on standard output: answered.
 pub fn print(text: &str) -> Result<Status, End> {
     put(text.as_bytes()).map(|()| Status::Answered)
+}
+
+/// What is printed for a refusal: the paper's line, and what it means.
+pub fn refused(refusal: Refusal, why: &str) -> String {
+    format!("refused {} {}\n{why}\n", refusal.number(), refusal.place())
+}
+
+/// Prints it.
+pub fn refuse(refusal: Refusal, why: &str) -> Result<Status, End> {
+    put(refused(refusal, why).as_bytes()).map(|()| Status::Refused)
 }
 
 /// A sheet's bytes to where `-o` says: a file, or standard output for `-`.
