@@ -1,18 +1,22 @@
 //! The file of stored answers: a case, how it is packed and unpacked, and its replay with the proved calls.
 use harness::{oracle::*, plain};
-use sorzibelu::{Graph, Refusal, check, conditional, dying, flow, graph::Owned, in_use, label, live, renumber, rewrite};
+use sorzibelu::{Graph, Refusal, check, conditional, dying, flow, graph::Owned, in_use, label, live, live_class, renumber, rewrite};
 use std::collections::HashMap;
 
 // behind the first six, which have the original's numbers
 pub const CHECK: u8 = 7;
 pub const RENUMBER: u8 = 8;
 pub const LABEL: u8 = 9;
+pub const LIVE_CLASS: u8 = 10;
 pub const WRONG: u8 = 128;
 pub const FILLING: u8 = 0xA5;
 pub const HEAD: usize = 16;
 pub const ROW: usize = 40;
 /// More than any call needs, and the most that a case lends.
 pub const MOST: usize = 36_864;
+/// The same of a class set, in bytes and in numbers.
+pub const MOST_SETS: usize = 16 * plain::SHEET_SETS + 512;
+pub const MOST_NUMBERS: usize = 64;
 
 /// A question and its stored answer.
 #[derive(Clone, PartialEq, Eq)]
@@ -23,6 +27,26 @@ pub struct Case {
     pub input: Vec<u8>,
     pub second: Vec<u8>,
     pub written: Vec<u8>,
+}
+
+/// A class set's answer as a case holds it, what is asked beside the class set first: for each sheet number, place, count and how many bytes it writes; then these bytes.
+pub fn given_class(numbers: usize, class: &plain::Class) -> (Vec<u8>, Vec<u8>) {
+    let (mut second, mut written) = (vec![numbers as u32], vec![]);
+    for sheet in class.iter().flatten() {
+        match sheet {
+            Ok((sets, taken)) => {
+                second.extend([0, 0, *taken, sets.len() as u32]);
+                written.extend(sets);
+            }
+            Err((number, place)) => second.extend([(*number).into(), (*place).into(), 0, 0]),
+        }
+    }
+    (second.iter().flat_map(|x| x.to_le_bytes()).collect(), written)
+}
+
+/// The numbers of a string.
+pub fn numbers_of(b: &[u8]) -> Vec<u32> {
+    b.chunks(4).map(|x| u32::from_le_bytes(x.try_into().unwrap())).collect()
 }
 
 fn packed_result(r: Result<u32, (u16, u16)>) -> u64 {
@@ -44,7 +68,7 @@ pub fn of_given(b: &[u8]) -> Owned {
     Owned {
         nodes: u32::from_le_bytes(b[..4].try_into().unwrap()),
         live: u64::from_le_bytes(b[4..12].try_into().unwrap()),
-        triples: b[12..].chunks(4).map(|x| u32::from_le_bytes(x.try_into().unwrap())).collect(),
+        triples: numbers_of(&b[12..]),
     }
 }
 
@@ -104,9 +128,30 @@ pub fn write_file(cases: &[Case]) -> Vec<u8> {
     file
 }
 
+fn packed(r: Result<u32, Refusal>) -> u64 {
+    packed_result(r.map_err(|r| (r.number(), r.place())))
+}
+
+/// Whether the proved call gives the stored answer of a class set, each sheet's bytes and numbers where they belong.
+fn class_agrees(lent: usize, result: u64, input: &[u8], second: &[u8], written: &[u8]) -> bool {
+    let (mut sets, mut answers) = (vec![FILLING; MOST_SETS], vec![u32::from_le_bytes([FILLING; 4]); MOST_NUMBERS]);
+    let (mut want_sets, mut want_answers) = (sets.clone(), answers.clone());
+    let (second, mut left) = (numbers_of(second), written);
+    for (k, row) in second[1..].chunks(4).enumerate() {
+        let mine = left.split_off(..row[3] as usize).expect("the bytes of each sheet");
+        want_sets[plain::SHEET_SETS * k..][..mine.len()].copy_from_slice(mine);
+        want_answers[plain::SHEET_NUMBERS * k..][..plain::SHEET_NUMBERS].copy_from_slice(&row[..3]);
+    }
+    assert!(left.is_empty(), "bytes of no sheet");
+    let answer = packed(live_class(input, &mut sets[..lent], &mut answers[..second[0] as usize]));
+    answer == result && sets == want_sets && answers == want_answers
+}
+
 /// Whether the proved call of a case gives the stored answer.
 pub fn agrees(op: u8, lent: usize, result: u64, input: &[u8], second: &[u8], written: &[u8]) -> bool {
-    let packed = |r: Result<u32, Refusal>| packed_result(r.map_err(|r| (r.number(), r.place())));
+    if op == LIVE_CLASS {
+        return class_agrees(lent, result, input, second, written);
+    }
     let mut bytes = vec![FILLING; if op == FLOW { 0 } else { MOST }];
     let mut numbers = vec![u16::from_le_bytes([FILLING; 2]); if op == FLOW { 8_192 } else { 0 }];
     let answer = match op {
@@ -131,7 +176,7 @@ pub fn agrees(op: u8, lent: usize, result: u64, input: &[u8], second: &[u8], wri
 pub fn replay(file: &[u8]) -> usize {
     let u32_at = |at: usize| u32::from_le_bytes(file[at..at + 4].try_into().unwrap()) as usize;
     assert!(&file[..8] == b"replay 1" && u32_at(12) == file.len());
-    let (mut counts, mut bad, mut wrong, mut found) = ([0; 10], 0, 0, 0);
+    let (mut counts, mut bad, mut wrong, mut found) = ([0; 11], 0, 0, 0);
     for k in 0..u32_at(8) {
         let row = HEAD + ROW * k;
         let string = |at: usize| unpack(&file[u32_at(row + at)..u32_at(row + at) + u32_at(row + at + 4)]);
@@ -152,8 +197,13 @@ pub fn replay(file: &[u8]) -> usize {
             }
         }
     }
-    for (op, name) in (1..).zip(["flow", "live", "rewrite", "in use", "conditional", "dying", "check", "renumber", "label"]) {
-        println!("{name} {} {}", counts[op], if (4..7).contains(&op) { "graphs" } else { "sheets" });
+    for (op, name) in (1..).zip(["flow", "live", "rewrite", "in use", "conditional", "dying", "check", "renumber", "label", "live class"]) {
+        let of = match op {
+            4..7 => "graphs",
+            10 => "class sets",
+            _ => "sheets",
+        };
+        println!("{name} {} {of}", counts[op]);
     }
     println!("{} cases, {bad} differences\n{wrong} made wrong, {found} found", counts.iter().sum::<usize>());
     bad + wrong - found

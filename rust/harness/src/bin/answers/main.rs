@@ -1,8 +1,9 @@
 //! `answers ORACLE FILE`: writes the stored answers that crates/replay replays, in the format of crates/replay/FORMAT.txt.
 //!
-//! Answers of accepted sheets, 10, 11 and 15 among them, of labels and of graphs are the original's, behind oracle/. Refusals, short output and the
-//! questions that the original does not finish are answered by the plain reading (rust/harness/src/plain.rs); no answer comes from the proved calls.
+//! Answers of accepted sheets, 10, 11 and 15 and the sheets of class sets among them, of labels and of graphs are the original's, behind oracle/. Refusals,
+//! short output and the questions that the original does not finish are answered by the plain reading (rust/harness/src/plain.rs); no answer comes from the proved calls.
 //! Then the file is read back and replayed with the proved calls, and what crates/replay must print is printed.
+mod classes;
 mod edges;
 mod file;
 
@@ -301,6 +302,7 @@ fn make(oracle: Child) -> Vec<Case> {
         m.graphs(&a, &b);
     }
     m.made_wrong();
+    m.class_sets();
     m.cases
 }
 
