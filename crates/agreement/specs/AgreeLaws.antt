@@ -5,7 +5,7 @@ use mathlib.Core.Path.{_≡_, sym, ap, ap₂, _∙_}
 use mathlib.Core.Bool.{Bool, true, false}
 use mathlib.Core.List.{List, _++_}
 use lib.Dec.{eqb}
-use lib.ListN.{length, take, drop, length-take}
+use lib.ListN.{length, take, drop, replicate, length-take, length-replicate}
 use lib.Seq.{length-take-le}
 use borrow.Author.Tests.{eqb-true, eq-eqb}
 use Rattle.base.specs.Refusals.{Reply, resultOf, outputAfter}
@@ -16,6 +16,10 @@ use Rattle.agreement.specs.Agree.{Says, SameResult, Agrees, AgreesClass,
 -- the front of a list, as long as it is asked
 pub front-long : (n long : ℕ) (xs : List ℕ) → n ≤ long → length xs ≡ long → n ≡ length (take n xs)
 front-long n long xs h k = sym (length-take n xs ∙ (omega arith))
+
+-- an array of one element repeated
+pub filled-long : (n a : ℕ) → n ≡ length {0} {A = ℕ} (replicate {0} {A = ℕ} n a)
+filled-long n a = sym (length-replicate n a)
 
 pub never : {A : Type 0} → false ≡ true → A
 never e = let z : _≡_ {A = ℕ} 0 1 = cc in absurd (omega arith)

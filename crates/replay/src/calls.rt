@@ -181,6 +181,13 @@ fn ask_dying(graph: &[u8], next: &[u8], lent: usize, result: u64, want: &[u8]) -
     ))
 }
 
+// Room for the sets of a class set. The promise gives only the length, so that no proof counts the bytes.
+fn class_room() -> [u8; CLASS_BYTES]
+    ensures { λ r. ⌜ 262656 ≡ length r ⌝ }
+{
+    [FILL; CLASS_BYTES]
+}
+
 // All of `from`, at `place` of `out`; false where it does not go in.
 fn lay_bytes(from: &[u8], out: &mut [u8], place: usize) -> bool {
     if out.len() < place {
@@ -244,7 +251,7 @@ fn lay_out(rows: &[u8], written: &[u8], want: &mut [u8], numbered: &mut [u32]) -
 }
 
 fn ask_live_class(sheets: &[u8], rows: &[u8], stored: StoredCase, written: &[u8]) -> Came {
-    let mut want = [FILL; CLASS_BYTES];
+    let mut want = class_room();
     let mut numbered = [FILL_ANSWER; CLASS_NUMBERS];
     if !lay_out(rows, written, &mut want, &mut numbered) {
         return Came::Damaged;
@@ -259,7 +266,7 @@ fn ask_live_class(sheets: &[u8], rows: &[u8], stored: StoredCase, written: &[u8]
     if stored.lent > CLASS_BYTES {
         return Came::Damaged;
     }
-    let mut sets = [FILL; CLASS_BYTES];
+    let mut sets = class_room();
     let mut answers = [FILL_ANSWER; CLASS_NUMBERS];
     compared(live_class_agrees(
         sheets,
