@@ -1,7 +1,7 @@
 -- The checks of a class set one after the other, what live replies to a sheet with its own bytes lent, and the outputs sheet by sheet. Assumes nothing.
 use mathlib.Core.Path.{_≡_, refl, sym, ap, ap₂, _∙_, subst}
 use mathlib.Core.Logic.{_≢_}
-use mathlib.Core.Bool.{Bool, true, false, cond, _&&_}
+use mathlib.Core.Bool.{Bool, true, false, cond, _&&_, and-false}
 use mathlib.Core.List.{List, [], _∷_, _++_}
 use Prim.Native.Nat.{ℕ, suc, _+_, _-_, _*_, _%_, _≤_, _<_}
 use native.Mathlib.Numerals.{add-one}
@@ -29,11 +29,7 @@ use Rattle.live_class.specs.ClassSet.{startsAt, sheetsIn, startOf, sheet
 
 -- 1
 pub bad-length : (n : ℕ) → n % blockBytes ≢ 0 → leb 1 n && eqb (n % blockBytes) 0 ≡ false
-bad-length n h = ap (λ (b : Bool). leb 1 n && b) (ne-eqb _ _ h) ∙ none (leb 1 n)
-  where
-    none : (b : Bool) → b && false ≡ false
-    none true = refl
-    none false = refl
+bad-length n h = ap (λ (b : Bool). leb 1 n && b) (ne-eqb _ _ h) ∙ and-false (leb 1 n)
 
 pub no-length : (n : ℕ) → n ≡ 0 → leb 1 n && eqb (n % blockBytes) 0 ≡ false
 no-length n e = ap (λ (b : Bool). b && eqb (n % blockBytes) 0) (lt-leb 1 n (omega arith))

@@ -2,6 +2,7 @@
 ghost use mathlib.Core.Path.{_≡_};
 ghost use Prim.Native.Nat.{_+_, _*_, _%_, _/_, _≤_};
 ghost use lib.ListN.{length};
+ghost use Rattle.base.specs.Sizes.{blockBytes, maxSheets, slotBytes, answerNumbers};
 use agreement::StoredCase;
 use agreement::check_agrees;
 use agreement::conditional_agrees;
@@ -183,7 +184,7 @@ fn ask_dying(graph: &[u8], next: &[u8], lent: usize, result: u64, want: &[u8]) -
 
 // Room for the sets of a class set. The promise gives only the length, so that no proof counts the bytes.
 fn class_room() -> [u8; CLASS_BYTES]
-    ensures { λ r. ⌜ 262656 ≡ length r ⌝ }
+    ensures { λ r. ⌜ maxSheets * slotBytes + blockBytes ≡ length r ⌝ }
 {
     [FILL; CLASS_BYTES]
 }
@@ -213,7 +214,7 @@ fn store(out: &mut [u32], at: usize, x: u32) {
 
 // Number, place and count of a row, as those of the sheet whose numbers start at `at`.
 fn lay_numbers(row: &[u8], numbered: &mut [u32], at: usize)
-    requires { ⌜ (length (now row) ≡ 16) × (at ≤ 48) ⌝ }
+    requires { ⌜ (length (now row) ≡ 16) × (at ≤ answerNumbers * maxSheets) ⌝ }
 {
     store(numbered, at, u32_at(row, 0));
     store(numbered, at + 1, u32_at(row, 4));
