@@ -33,16 +33,16 @@ slotOf sets k = part sets (slotBytes * k) slotBytes
 abbrev pub byteAt : List ℕ → ℕ → ℕ → ℕ
 byteAt sets k i = getD sets (slotBytes * k + i) 0
 
--- ---- x is sheet k; `sets` is what was lent, sets′ and answers′ what the call leaves
+-- ---- one sheet: `sets` is what was lent, sets′ and answers′ what the call leaves
 
--- x is refused: number and place, count 0, and its bytes as they were
+-- sheet k is refused: number and place, count 0, and its bytes as they were
 pub record RefusedAt (num p k : ℕ) (sets sets′ answers′ : List ℕ) : Type 0 where
   pub number : numberAt answers′ k ≡ num
   pub place : placeAt answers′ k ≡ p
   pub count : countAt answers′ k ≡ 0
   pub kept : (i : ℕ) → i < slotBytes → byteAt sets′ k i ≡ byteAt sets k i
 
--- x is accepted: 0, 0 and its count, term 3 of its bytes, and those past 16n as they were
+-- sheet k, x, is accepted: 0, 0 and its count, term 3 of its bytes, and those past 16n as they were
 pub record AcceptedAt (x : List ℕ) (k : ℕ) (sets sets′ answers′ : List ℕ) : Type 0 where
   pub number : numberAt answers′ k ≡ 0
   pub place : placeAt answers′ k ≡ 0
@@ -52,6 +52,7 @@ pub record AcceptedAt (x : List ℕ) (k : ℕ) (sets sets′ answers′ : List �
 
 -- ---- the whole
 
+-- what s, which is not refused, means
 pub record ClassMeaning (s sets answers sets′ answers′ : List ℕ) : Type 0 where
   -- each sheet's numbers are those that it gets alone, however many bytes are lent to it, if they are no fewer than its own; 9 is never among them
   pub alone-numbers : (k lent : ℕ) → k < sheetsIn s → slotBytes ≤ lent → part answers′ (answerNumbers * k) answerNumbers ≡ numbersOf (resultOf (liveReply (sheetAt s k) lent))
@@ -65,14 +66,16 @@ pub record ClassMeaning (s sets answers sets′ answers′ : List ℕ) : Type 0 
   pub sets-behind : (i : ℕ) → slotBytes * sheetsIn s ≤ i → getD sets′ i 0 ≡ getD sets i 0
   pub answers-behind : (i : ℕ) → answerNumbers * sheetsIn s ≤ i → getD answers′ i 0 ≡ getD answers i 0
 
--- ---- the same sheet at the same place of two class sets, x: the same numbers, and if accepted the same 16n bytes
+-- ---- the same sheet at the same place of two class sets
 
+-- x, sheet k of both: the same numbers, and if accepted the same 16n bytes
 pub record SameAnswer (x : List ℕ) (k : ℕ) (sets₁ answers₁ sets₂ answers₂ : List ℕ) : Type 0 where
   pub numbers : part answers₁ (answerNumbers * k) answerNumbers ≡ part answers₂ (answerNumbers * k) answerNumbers
   pub bytes : checkSheet x ≡ Accepted → (i : ℕ) → i < pairBytes * length (codeOf x) → byteAt sets₁ k i ≡ byteAt sets₂ k i
 
--- ---- which sheets are cut as they were laid: whole blocks, of which the first and no other is numbered 0
+-- ---- which sheets are cut as they were laid
 
+-- x has whole blocks, of which the first and no other is numbered 0
 pub record OneSheet (x : List ℕ) : Type 0 where
   pub blocks : ℕ
   pub size : length x ≡ blockBytes * blocks

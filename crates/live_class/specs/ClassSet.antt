@@ -36,8 +36,9 @@ startOf s k = getD (startsOf s) k (blocksIn s)
 unfoldable pub sheetAt : List ℕ → ℕ → List ℕ
 sheetAt s k = part s (blockBytes * startOf s k) (blockBytes * (startOf s (suc k) - startOf s k))
 
--- ---- the checks of the whole: 1, 16, 17, and 9 for either output
+-- ---- the checks of the whole
 
+-- 1, 16, 17, and 9 for either output, where so many bytes and so many numbers are lent
 unfoldable pub checkClass : List ℕ → ℕ → ℕ → Verdict
 checkClass s lent numbers =
     check 1 (whole (leb 1 (length s) && eqb (length s % blockBytes) 0))
@@ -60,10 +61,12 @@ slotAfter s sets k = outputAfter (aloneAt s k) (part sets (slotBytes * k) slotBy
 unfoldable pub numbersOf : Result → List ℕ
 numbersOf r = cond (eqb (r .number) 0) (0 ∷ 0 ∷ r .value ∷ []) (r .number ∷ r .value ∷ 0 ∷ [])
 
--- ---- the call: the number of sheets, and what the front of each output then holds
+-- ---- the call: the number of sheets
 
+-- and what `sets` then holds: the bytes of each sheet, one behind the other
 unfoldable pub setsReply : List ℕ → List ℕ → ℕ → Reply
 setsReply s sets numbers = reply (checkClass s (length sets) numbers) (Done (sheetsIn s) (joins (sheetsIn s) (slotAfter s sets)))
 
+-- and `answers`: the three numbers of each
 unfoldable pub answersReply : List ℕ → ℕ → ℕ → Reply
 answersReply s lent numbers = reply (checkClass s lent numbers) (Done (sheetsIn s) (joins (sheetsIn s) (λ k. numbersOf (resultOf (aloneAt s k)))))
