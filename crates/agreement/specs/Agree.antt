@@ -5,7 +5,7 @@ use mathlib.Core.Bool.{Bool, true}
 use mathlib.Core.List.{List, [], _∷_, _++_}
 use lib.ListN.{length, take, drop}
 use Rattle.base.specs.Refusals.{Reply, resultOf, outputAfter}
-use Rattle.live_class.specs.ClassSet.{setsReply, answersReply}
+use Rattle.class_set.specs.ClassSet.{setsReply, answersReply}
 use Rattle.c_api.specs.Packed.{packed}
 
 -- b says whether P

@@ -9,7 +9,7 @@ use lib.ListN.{length, take, drop, replicate, length-take, length-replicate}
 use lib.Seq.{length-take-le}
 use borrow.Author.Tests.{eqb-true, eq-eqb}
 use Rattle.base.specs.Refusals.{Reply, resultOf, outputAfter}
-use Rattle.live_class.specs.ClassSet.{setsReply, answersReply}
+use Rattle.class_set.specs.ClassSet.{setsReply, answersReply}
 use Rattle.c_api.specs.Packed.{packed}
 use Rattle.agreement.specs.Agree.{Says, SameResult, Agrees, AgreesClass, after}
 

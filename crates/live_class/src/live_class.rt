@@ -1,52 +1,24 @@
-// The call live_class: the checks of the whole before a byte is written, then live for each sheet, which is handed on as the part of the class set that it is. Assumes nothing.
+// The call live_class: the checks of the whole, then live for each sheet, which is handed on as the part of the class set that it is. Assumes nothing.
 ghost use mathlib.Core.Path.{_≡_};
 ghost use mathlib.Core.List.{[], _∷_, _++_};
 ghost use Prim.Native.Nat.{_*_, _≤_};
 ghost use lib.ListN.{length, drop};
 ghost use Rattle.base.specs.Sizes.{slotBytes, answerNumbers};
 ghost use Rattle.base.specs.Lists.{joins};
-ghost use Rattle.base.specs.Refusals.{verdictOf, resultOf, answerOf, outputAfter};
+ghost use Rattle.base.specs.Refusals.{resultOf, answerOf, outputAfter};
 ghost use Rattle.livevar_analysis.specs.Analysis.{liveReply};
-ghost use Rattle.live_class.specs.ClassSet.{sheetsIn, checkClass, aloneAt, slotAfter, numbersOf, setsReply, answersReply};
-ghost use Rattle.live_class.specs.ClassMeaning.{ClassMeaning};
-use crate::cut::count_sheets;
-use crate::cut::next_start;
+ghost use Rattle.class_set.specs.ClassSet.{sheetsIn, aloneAt, slotAfter, numbersOf, setsReply, answersReply};
+ghost use Rattle.class_set.specs.ClassMeaning.{ClassMeaning};
 use base::ANSWER_NUMBERS;
 use base::Answer;
 use base::BLOCK_BYTES;
 use base::Checked;
 use base::LIVE_BYTES;
-use base::MAX_SHEETS;
-use base::Refusal;
 use base::width::u16_to_u32;
+use class_set::check::check_class;
+use class_set::cut::count_sheets;
+use class_set::cut::next_start;
 use live::analysis::live;
-use sheet::reader::u16_at;
-
-// 1, 16, 17 and 9, of a class set of m sheets.
-fn check_class(sheets: &[u8], m: usize, lent: usize, numbers: usize) -> Checked
-    requires { ⌜ m ≡ sheetsIn (now sheets) ⌝ }
-    ensures { λ r. ⌜ verdictOf r ≡ checkClass (now (sheets .entry)) lent numbers ⌝ }
-{
-    if sheets.len() == 0 {
-        return Checked::Refused(Refusal::Length);
-    }
-    if sheets.len() % BLOCK_BYTES != 0 {
-        return Checked::Refused(Refusal::Length);
-    }
-    if u16_at(sheets, 0) != 0 {
-        return Checked::Refused(Refusal::FirstBlock);
-    }
-    if MAX_SHEETS < m {
-        return Checked::Refused(Refusal::TooManySheets);
-    }
-    if lent < LIVE_BYTES * m {
-        return Checked::Refused(Refusal::OutputShort);
-    }
-    if numbers < ANSWER_NUMBERS * m {
-        return Checked::Refused(Refusal::OutputShort);
-    }
-    Checked::Accepted
-}
 
 // Three numbers.
 fn put_answer(answer: &mut [u32], number: u32, place: u32, count: u32)

@@ -6,7 +6,7 @@ use lib.ListN.{set, replicate}
 use Rattle.base.specs.Sizes.{blockBytes, maxSheets, slotBytes, answerNumbers}
 use Rattle.base.specs.Lists.{tab, gather}
 use Rattle.base.specs.Refusals.{Reply, No, Done}
-use Rattle.live_class.specs.ClassSet.{startsOf, sheetAt, answersReply}
+use Rattle.class_set.specs.ClassSet.{startsOf, sheetAt, answersReply}
 use Rattle.worked.specs.Samples.{m1, m2, m4}
 use Rattle.worked.specs.Opened.{opened}
 

@@ -6,8 +6,8 @@ use lib.ListN.{length}
 use Rattle.base.specs.Refusals.{verdictOf}
 use Rattle.base.specs.RefusalLaws.{accepted-by}
 use Rattle.base.specs.ReplyLaws.{refuses, refused-number}
-use Rattle.live_class.specs.ClassLaws.{class-room, sets-refused, answers-refused}
-use Rattle.live_class.specs.ClassMeaningLaws.{class-done}
+use Rattle.class_set.specs.ClassLaws.{class-room, sets-refused, answers-refused}
+use Rattle.class_set.specs.ClassMeaningLaws.{class-done}
 use Rattle.live_class.proofs.live_class.live_class.Statement.{statement}
 use Rattle.live_class.proofs.live_class.live_class.Tie as tie
 

@@ -5,7 +5,7 @@ use Prim.Native.Nat.{ℕ}
 use borrow.Author.Needs.{needs}
 use Rattle.base.specs.Refusals.{answerOf}
 use Rattle.base.specs.ReplyLaws.{refused-number}
-use Rattle.live_class.specs.ClassLaws.{numbers-accepted, numbers-refused}
+use Rattle.class_set.specs.ClassLaws.{numbers-accepted, numbers-refused}
 use Rattle.live_class.proofs.live_class.live_sheet.Statement.{statement}
 use Rattle.live_class.proofs.live_class.live_sheet.Tie as tie
 

@@ -5,9 +5,9 @@ use native.Mathlib.Omega.{arith}
 use lib.ListN.{length}
 use borrow.Author.Needs.{needs}
 use Rattle.base.specs.Sizes.{answerNumbers}
-use Rattle.live_class.specs.ClassSet.{blocksIn, sheetsIn}
-use Rattle.live_class.specs.CutLaws.{start-inside}
-use Rattle.live_class.specs.ClassLaws.{Answered, answered-none, next-is, lent-long, answered-more}
+use Rattle.class_set.specs.ClassSet.{blocksIn, sheetsIn}
+use Rattle.class_set.specs.CutLaws.{start-inside}
+use Rattle.class_set.specs.ClassLaws.{Answered, answered-none, next-is, lent-long, answered-more}
 use Rattle.live_class.proofs.live_class.live_sheets.Statement.{statement}
 use Rattle.live_class.proofs.live_class.live_sheets.Tie as tie
 

@@ -3,9 +3,9 @@ use mathlib.Core.Path.{ap}
 use Prim.Native.Nat.{ℕ}
 use lib.Dec.{eqb}
 use borrow.Author.Needs.{needs}
-use Rattle.live_class.specs.ClassSet.{startsAt}
-use Rattle.live_class.proofs.cut.starts_at.Statement.{statement}
-use Rattle.live_class.proofs.cut.starts_at.Tie as tie
+use Rattle.class_set.specs.ClassSet.{startsAt}
+use Rattle.class_set.proofs.cut.starts_at.Statement.{statement}
+use Rattle.class_set.proofs.cut.starts_at.Tie as tie
 
 returns : tie.Need-returns
 unfolding startsAt

@@ -22,8 +22,8 @@ use Rattle.sheet.specs.Checks.{checkSheet}
 use Rattle.sheet.specs.ValidLaws.{accepted-valid}
 use Rattle.livevar_analysis.specs.Analysis.{analyze, liveBytes, liveReply}
 use Rattle.livevar_analysis.specs.LiveCallLaws.{live-refused, live-done, live-length}
-use Rattle.live_class.specs.CutLaws.{firstFrom, start-first, start-next, sheet-part}
-use Rattle.live_class.specs.ClassSet.{startsAt, sheetsIn, startOf, sheetAt, checkClass, aloneAt, slotAfter, numbersOf, setsReply, answersReply}
+use Rattle.class_set.specs.CutLaws.{firstFrom, start-first, start-next, sheet-part}
+use Rattle.class_set.specs.ClassSet.{startsAt, sheetsIn, startOf, sheetAt, checkClass, aloneAt, slotAfter, numbersOf, setsReply, answersReply}
 
 -- ---- the checks of the whole
 

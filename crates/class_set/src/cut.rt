@@ -3,7 +3,7 @@ ghost use mathlib.Core.Path.{_≡_};
 ghost use Prim.Native.Nat.{_-_, _<_, _≤_};
 ghost use lib.ListN.{getD};
 ghost use Rattle.base.specs.Lists.{keep};
-ghost use Rattle.live_class.specs.ClassSet.{blocksIn, startsAt, sheetsIn};
+ghost use Rattle.class_set.specs.ClassSet.{blocksIn, startsAt, sheetsIn};
 use base::BLOCK_BYTES;
 use sheet::reader::u16_at;
 

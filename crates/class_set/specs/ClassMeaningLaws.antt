@@ -19,9 +19,9 @@ use Rattle.livevar_analysis.specs.Analysis.{analyze, liveBytes, liveReply}
 use Rattle.livevar_analysis.specs.LiveCall.{LeastLive, TakenUntilEmpty}
 use Rattle.livevar_analysis.specs.LiveCallLaws.{live-refused, live-length, least-live}
 use Rattle.livevar_analysis.specs.Term3Laws.{term3}
-use Rattle.live_class.specs.ClassSet.{sheetsIn, sheetAt, checkClass, aloneAt, slotAfter, numbersOf, setsReply, answersReply}
-use Rattle.live_class.specs.ClassMeaning.{numberAt, slotOf, byteAt, RefusedAt, AcceptedAt, ClassMeaning, SameAnswer}
-use Rattle.live_class.specs.ClassLaws.{class-room, slot-enough, alone-done, by-checks, numbersAt, numbers-long, numbers-accepted, numbers-refused, slot-long, sets-done, answers-done, sets-long, answers-long}
+use Rattle.class_set.specs.ClassSet.{sheetsIn, sheetAt, checkClass, aloneAt, slotAfter, numbersOf, setsReply, answersReply}
+use Rattle.class_set.specs.ClassMeaning.{numberAt, slotOf, byteAt, RefusedAt, AcceptedAt, ClassMeaning, SameAnswer}
+use Rattle.class_set.specs.ClassLaws.{class-room, slot-enough, alone-done, by-checks, numbersAt, numbers-long, numbers-accepted, numbers-refused, slot-long, sets-done, answers-done, sets-long, answers-long}
 
 -- a sheet's reply does not depend on how much is lent, if it is no less than its own bytes
 alone-same : (x : List ℕ) (lent : ℕ) → slotBytes ≤ lent → liveReply x slotBytes ≡ liveReply x lent

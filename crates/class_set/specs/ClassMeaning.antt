@@ -12,7 +12,7 @@ use Rattle.sheet.specs.Layout.{codeOf}
 use Rattle.sheet.specs.Checks.{checkSheet}
 use Rattle.livevar_analysis.specs.Analysis.{liveReply}
 use Rattle.livevar_analysis.specs.LiveCall.{LeastLive, TakenUntilEmpty}
-use Rattle.live_class.specs.ClassSet.{startsAt, sheetsIn, sheetAt, numbersOf}
+use Rattle.class_set.specs.ClassSet.{startsAt, sheetsIn, sheetAt, numbersOf}
 
 -- ---- what the outputs hold of sheet k
 

@@ -5,10 +5,10 @@ use Prim.Native.Nat.{ℕ, _-_, _≤_}
 use native.Mathlib.Omega.{arith}
 use lib.ListN.{getD}
 use borrow.Author.Needs.{needs}
-use Rattle.live_class.specs.ClassSet.{blocksIn}
-use Rattle.live_class.specs.CutLaws.{firstFrom, first-here, starts-pass, starts-end}
-use Rattle.live_class.proofs.cut.next_start.Statement.{statement}
-use Rattle.live_class.proofs.cut.next_start.Tie as tie
+use Rattle.class_set.specs.ClassSet.{blocksIn}
+use Rattle.class_set.specs.CutLaws.{firstFrom, first-here, starts-pass, starts-end}
+use Rattle.class_set.proofs.cut.next_start.Statement.{statement}
+use Rattle.class_set.proofs.cut.next_start.Tie as tie
 
 abbrev Inv-loop : tie.InvT-loop
 Inv-loop s from blocks b₀ b = (from ≤ b) × (b ≤ blocks) × (firstFrom s from ≡ firstFrom s b)

@@ -1,10 +1,10 @@
--- `live_class::check_class` meets its contract: the first test that fails decides. Assumes nothing.
+-- `check::check_class` meets its contract: the first test that fails decides. Assumes nothing.
 use mathlib.Core.Path.{sym}
 use native.Mathlib.Omega.{arith}
 use borrow.Author.Needs.{needs}
-use Rattle.live_class.specs.ClassLaws.{bad-length, no-length, good-length, first-zero, first-other, class-length, class-first, class-many, class-short, class-answers, class-passes}
-use Rattle.live_class.proofs.live_class.check_class.Statement.{statement}
-use Rattle.live_class.proofs.live_class.check_class.Tie as tie
+use Rattle.class_set.specs.ClassLaws.{bad-length, no-length, good-length, first-zero, first-other, class-length, class-first, class-many, class-short, class-answers, class-passes}
+use Rattle.class_set.proofs.check.check_class.Statement.{statement}
+use Rattle.class_set.proofs.check.check_class.Tie as tie
 
 returns : tie.Need-returns
 returns c = sym (class-length _ _ _ (no-length _ (c .if1 .taken)))

@@ -5,10 +5,10 @@ use Prim.Native.Nat.{_+_, _-_, _≤_, _<_}
 use native.Mathlib.Omega.{arith}
 use lib.ListN.{length}
 use borrow.Author.Needs.{needs}
-use Rattle.live_class.specs.ClassSet.{blocksIn, sheetsIn}
-use Rattle.live_class.specs.CutLaws.{startsFrom, from-start, count-here, starts-pass, starts-end}
-use Rattle.live_class.proofs.cut.count_sheets.Statement.{statement}
-use Rattle.live_class.proofs.cut.count_sheets.Tie as tie
+use Rattle.class_set.specs.ClassSet.{blocksIn, sheetsIn}
+use Rattle.class_set.specs.CutLaws.{startsFrom, from-start, count-here, starts-pass, starts-end}
+use Rattle.class_set.proofs.cut.count_sheets.Statement.{statement}
+use Rattle.class_set.proofs.cut.count_sheets.Tie as tie
 
 abbrev Inv-loop : tie.InvT-loop
 Inv-loop s blocks m₀ b₀ m b = (m ≤ b) × (b ≤ blocks) × (m + length (startsFrom s b) ≡ sheetsIn s)

@@ -11,7 +11,7 @@ use Rattle.base.specs.Lists.{keep}
 use Rattle.base.specs.Bytes.{part}
 use Rattle.base.specs.ListLaws.{Kept, in-keep, getD-in}
 use Rattle.base.specs.SearchLaws.{keep-here, keep-pass, keep-end, keep-next}
-use Rattle.live_class.specs.ClassSet.{blocksIn, startsAt, startsOf, sheetsIn, startOf, sheetAt}
+use Rattle.class_set.specs.ClassSet.{blocksIn, startsAt, startsOf, sheetsIn, startOf, sheetAt}
 
 module _ (s : List ℕ) where
   -- ---- the starts from block b on

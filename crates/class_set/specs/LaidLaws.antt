@@ -21,8 +21,8 @@ use Rattle.sheet.specs.Layout.{blockAt, checkOf}
 use Rattle.sheet.specs.Checks.{blockOk, checkSheet}
 use Rattle.sheet.specs.CheckLaws.{clear}
 use Rattle.sheet.specs.FormLaws.{length-sized}
-use Rattle.live_class.specs.ClassSet.{blocksIn, startsAt, startsOf, sheetsIn, startOf, sheetAt}
-use Rattle.live_class.specs.ClassMeaning.{OneSheet, CutAsLaid}
+use Rattle.class_set.specs.ClassSet.{blocksIn, startsAt, startsOf, sheetsIn, startOf, sheetAt}
+use Rattle.class_set.specs.ClassMeaning.{OneSheet, CutAsLaid}
 
 -- ---- `keep` in two parts
 
