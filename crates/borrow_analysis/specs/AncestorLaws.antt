@@ -3,16 +3,16 @@ use mathlib.Core.Path.{_≡_, refl, sym, ap, _∙_, subst}
 use mathlib.Core.Logic.{⊎-elim}
 use mathlib.Core.Bool.{Bool, true, false, cond, _||_}
 use mathlib.Core.List.{List, [], _∷_, List·Memᴰ, List·Memᴰ·head, List·Memᴰ·tail, List·Memᴰ·not-nil, List·Memᴰ·cases-cons}
-use Prim.Native.Nat.{ℕ, zero, suc, _+_, _-_, _^_, _≤_, _<_}
+use Prim.Native.Nat.{ℕ, zero, suc, _-_, _^_, _<_}
 use native.Mathlib.Omega.{arith}
-use borrow.Author.Tests.{eq-eqb, ne-eqb, eqb-true}
+use borrow.Author.Tests.{eq-eqb, eqb-true}
 use lib.Count.{ones}
 use lib.Dec.{eqb}
 use lib.ListN.{length-append}
 use lib.Pow.{pow-lt}
-use Rattle.base.specs.Lists.{tab, over}
+use Rattle.base.specs.Lists.{over}
 use Rattle.base.specs.ListLaws.{by-test, or-false}
-use Rattle.base.specs.TabLaws.{tab-more, tab-end, over-keeps}
+use Rattle.base.specs.TabLaws.{over-keeps}
 use Rattle.dataflow_domains.specs.Mask.{holds}
 use Rattle.dataflow_domains.specs.MaskLaws.{union-comm, ones-insert, sub-refl, sub-trans, sub-union-r, union-lt}
 use Rattle.dataflow_domains.specs.HoldsLaws.{holds-false}
@@ -32,6 +32,10 @@ in-parents (t ∷ ts) n p i =
   where
     later : ((u : Triple) × List·Memᴰ u ts × (u .child ≡ n) × (p ≡ u .parent)) → (u : Triple) × List·Memᴰ u (t ∷ ts) × (u .child ≡ n) × (p ≡ u .parent)
     later r = (r .0, List·Memᴰ·tail (r .1), r .2, r .3)
+
+-- each is below what bounds the triples' parents
+pub parents-small : (ts : List Triple) (c : ℕ) → ((t : Triple) → List·Memᴰ t ts → t .parent < c) → (n p : ℕ) → List·Memᴰ p (getParents ts n) → p < c
+parents-small ts c inside n p i = let r = in-parents ts n p i in omega (arith, inside (r .0) (r .1), r .3)
 
 pub parents-in : (ts : List Triple) (t : Triple) → List·Memᴰ t ts → List·Memᴰ (t .parent) (getParents ts (t .child))
 unfolding getParents
@@ -84,25 +88,7 @@ module _ (ts : List Triple) (used c : ℕ) (inside : (t : Triple) → List·Mem�
       by-test (λ b. VisitsGrow c st (elim b [ true ↦ st | false ↦ over (collectAncestors d ts used) (listNode st n) (getParents ts n) ])) (holds (st .mask) n || holds used n)
       (λ e. record { fair = w; has = sub-refl (st .mask) })
       (λ e. over-keeps (VisitsGrow c st) (collectAncestors d ts used) (getParents ts n) (listNode st n)
-      (λ s p i g. next g (collect-grows d s p (below p i) (g .fair))) (list-grows st n w h (or-false (holds (st .mask) n) (holds used n) e .0)))
+      (λ s p i g. next g (collect-grows d s p (parents-small ts c inside n p i) (g .fair))) (list-grows st n w h (or-false (holds (st .mask) n) (holds used n) e .0)))
     where
-      below : (p : ℕ) → List·Memᴰ p (getParents ts n) → p < c
-      below p i = let r = in-parents ts n p i in omega (arith, inside (r .0) (r .1), r .3)
-
       next : {a b : VisitedNodes} → VisitsGrow c st a → VisitsGrow c a b → VisitsGrow c st b
       next g k = record { fair = k .fair; has = sub-trans (g .has) (k .has) }
-
--- ---- the loop over the triples, from i on
-
-module _ {B : Type 0} (f : B → ℕ → B) (g : ℕ → Triple) (n x : ℕ) where
-  pub over-more : (st : B) (i : ℕ) → i < n → g i .child ≡ x → over f st (getParents (tab (n - i) i g) x) ≡ over f (f st (g i .parent)) (getParents (tab (n - (i + 1)) (i + 1) g) x)
-  unfolding over getParents
-  over-more st i h e = rw (tab-more n i g h, eq-eqb (g i .child) x e)
-
-  pub over-other : (st : B) (i : ℕ) → i < n → (g i .child ≡ x → ⊥) → over f st (getParents (tab (n - i) i g) x) ≡ over f st (getParents (tab (n - (i + 1)) (i + 1) g) x)
-  unfolding over getParents
-  over-other st i h e = rw (tab-more n i g h, ne-eqb (g i .child) x e)
-
-  pub over-end : (st : B) (i : ℕ) → n ≤ i → over f st (getParents (tab (n - i) i g) x) ≡ st
-  unfolding over getParents
-  over-end st i h = rw (tab-end n i g h)

@@ -5,7 +5,7 @@ use mathlib.Core.List.{List, [], _++_}
 use Prim.Native.Nat.{ℕ, _/_, _≤_, _<_}
 use native.Mathlib.Omega.{arith}
 use lib.ListN.{length, take, drop}
-use lib.Seq.{take-at}
+use lib.Seq.{take-at, length-take-le}
 use Rattle.base.specs.Lists.{over}
 use Rattle.base.specs.ReplyLaws.{reply-refused, reply-done, call-refused, call-short, call-done, done-result, done-output}
 use Rattle.base.specs.Refusals.{Accepted, Refused, lends, No, Done, resultOf, outputAfter}
@@ -16,6 +16,7 @@ use Rattle.borrow_analysis.specs.Borrows.{upward, above, isInUse, manyIn
 use Rattle.borrow_analysis.specs.GraphParts.{ManyIncoming}
 use Rattle.borrow_analysis.specs.Visiting.{VisitsWritten}
 use Rattle.borrow_analysis.specs.TripleLaws.{many-is, incoming-out}
+use Rattle.borrow_analysis.specs.VisitLaws.{written-part}
 use Rattle.borrow_analysis.specs.AcceptedLaws.{accepted-asked}
 
 -- ---- in use, conditional
@@ -72,16 +73,19 @@ pub record DyingListed (here next : GraphInput) (k : ℕ) (lent new : List ℕ) 
   pub written : new ≡ outputAfter (dyingReply here next (length lent)) lent
   pub front : take k new ≡ dyingNodes (graphOf here) (graphOf next)
 
-pub dying-done : (here next : GraphInput) (lent : List ℕ) {used from there m k : ℕ} {new : List ℕ} → checkGraphs here next ≡ Accepted → here .count ≤ length lent
-    → used ≡ upward (next .count) (triplesOf (next .numbers)) there → there ≡ next .live → from ≡ here .live
-    → VisitsWritten (over (collectAncestors (here .count) (triplesOf (here .numbers)) used) noneVisited (members (here .count) from)) m k lent new
-    → DyingListed here next k lent new
+-- they were written into the lent bytes' first part, one for each node
+pub dying-done : (here next : GraphInput) (lent : List ℕ) {used from there m k : ℕ} {part : List ℕ} → checkGraphs here next ≡ Accepted → here .count ≤ length lent
+    → used ≡ upward (next .count) (triplesOf (next .numbers)) there → there ≡ next .live → from ≡ here .live → (let c = length (take (here .count) lent) in
+    VisitsWritten (over (collectAncestors c (triplesOf (here .numbers)) used) noneVisited (members c from)) m k (take (here .count) lent) part × (k ≤ c))
+    → DyingListed here next k lent (part ++ drop (here .count) lent)
 unfolding dyingReply
-dying-done here next lent a h u t f came =
-    let is = dying-listed here next u t f in
+dying-done here next lent {used} {from} {there} {m} {k} {part} a h u t f came =
+    let size = length-take-le (here .count) lent h in
+    let is = ap (λ (c : ℕ). over (collectAncestors c (triplesOf (here .numbers)) used) noneVisited (members c from) .listed) size ∙ dying-listed here next u t f in
+    let whole = written-part _ lent (here .count) h (came .0) (omega (arith, size, came .1)) in
     let done = call-done _ a h in
     record {
-      result = done-result (came .count ∙ ap length is) done;
-      written = done-output lent refl done (came .wrote ∙ ap (λ (l : List ℕ). l ++ drop (length l) lent) is);
-      front = written-front came ∙ is;
+      result = done-result (whole .count ∙ ap length is) done;
+      written = done-output lent refl done (whole .wrote ∙ ap (λ (l : List ℕ). l ++ drop (length l) lent) is);
+      front = written-front whole ∙ is;
     }

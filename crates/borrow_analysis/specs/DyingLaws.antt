@@ -16,11 +16,11 @@ use Rattle.dataflow_domains.specs.HoldsLaws.{holds-true, holds-false, true-hold
 use Rattle.borrow_analysis.specs.declared.triples.Triple.{Triple}
 use Rattle.borrow_analysis.specs.Borrows.{getParents, VisitedNodes, listNode, collectAncestors}
 use Rattle.borrow_analysis.specs.Visiting.{ListedBelow, VisitsGrow, ListedOnce, AllListed, Settled, ParentsSettled, VisitedAll}
-use Rattle.borrow_analysis.specs.AncestorLaws.{in-parents, parents-in, collect-skip, list-grows, collect-grows}
+use Rattle.borrow_analysis.specs.AncestorLaws.{in-parents, parents-small, parents-in, collect-skip, list-grows, collect-grows}
 
 -- ---- each once: the list has the nodes of the mask
 
-list-once : (st : VisitedNodes) (n : ℕ) → ListedOnce st → holds (st .mask) n ≡ false → ListedOnce (listNode st n)
+pub list-once : (st : VisitedNodes) (n : ℕ) → ListedOnce st → holds (st .mask) n ≡ false → ListedOnce (listNode st n)
 list-once st n w e = record {
   distinct = distinct-snoc n (λ i. let h : bit (st .mask) n ≡ 0 = holds-false (st .mask) n e in omega (arith, w .seen n i)) (w .distinct);
   seen = λ x i. ⊎-elim (λ a. omega (arith, w .seen x a, bit-union (2 ^ n) (st .mask) x, bit-lt (2 ^ n) x))
@@ -126,11 +126,8 @@ module _ (ts : List Triple) (used c : ℕ) (inside : (t : Triple) → List·Mem�
       (λ e. here-visits st n w (record { either = ⊎-elim (λ m. inl (holds-true (st .mask) n m)) (λ u. inr u) (or-true (holds (st .mask) n) (holds used n) e) }))
       (λ e. let new : holds (st .mask) n ≡ false = or-false (holds (st .mask) n) (holds used n) e .0 in
       list-visits st _ n h w new
-      (over-visits d (collectAncestors d ts used) (λ s p a b k. collect-visits d s p a b k) (getParents ts n) below (listNode st n) (list-grows st n w h new .fair)
+      (over-visits d (collectAncestors d ts used) (λ s p a b k. collect-visits d s p a b k) (getParents ts n) (parents-small ts c inside n) (listNode st n) (list-grows st n w h new .fair)
       (omega (arith, l, ap ones (union-comm (2 ^ n) (st .mask)), ones-insert n (st .mask) (holds-false (st .mask) n new)))))
-    where
-      below : (p : ℕ) → List·Memᴰ p (getParents ts n) → p < c
-      below p i = let r = in-parents ts n p i in omega (arith, inside (r .0) (r .1), r .3)
 
   -- ---- no depth cuts a visit off, where there is depth for each node that is not visited: a greater one comes to the same
 
@@ -155,8 +152,5 @@ module _ (ts : List Triple) (used c : ℕ) (inside : (t : Triple) → List·Mem�
       (elim b [ true ↦ st | false ↦ over (collectAncestors e ts used) (listNode st n) (getParents ts n) ])) (holds (st .mask) n || holds used n) (λ q. refl)
       (λ q. let new : holds (st .mask) n ≡ false = or-false (holds (st .mask) n) (holds used n) q .0 in
       over-same d (collectAncestors d ts used) (collectAncestors e ts used) (λ s p a b m. collect-depth d e s p a b m (omega arith)) (λ s p a b. collect-grows ts used c inside d s p a b)
-      (getParents ts n) below (listNode st n) (list-grows st n w h new .fair)
+      (getParents ts n) (parents-small ts c inside n) (listNode st n) (list-grows st n w h new .fair)
       (omega (arith, l, ap ones (union-comm (2 ^ n) (st .mask)), ones-insert n (st .mask) (holds-false (st .mask) n new))))
-    where
-      below : (p : ℕ) → List·Memᴰ p (getParents ts n) → p < c
-      below p i = let r = in-parents ts n p i in omega (arith, inside (r .0) (r .1), r .3)

@@ -34,11 +34,11 @@ use Rattle.borrow_analysis.specs.DyingLaws.{collect-once, collect-only, 
 
 -- ---- an accepted graph's triples
 
-parents-lt : (g : GraphInput) → AcceptedGraph g → (t : Triple) → List·Memᴰ t (graphOf g .triples) → t .parent < graphOf g .count
+pub parents-lt : (g : GraphInput) → AcceptedGraph g → (t : Triple) → List·Memᴰ t (graphOf g .triples) → t .parent < graphOf g .count
 unfolding graphOf
 parents-lt g w t i = parents-below (w .inside) t i
 
-live-lt : (g : GraphInput) → AcceptedGraph g → graphOf g .live < 2 ^ graphOf g .count
+pub live-lt : (g : GraphInput) → AcceptedGraph g → graphOf g .live < 2 ^ graphOf g .count
 unfolding graphOf
 live-lt g w = w .small
 

@@ -1,17 +1,16 @@
 -- The visits in lent bytes: room for a node more, one visit, the loop over the triples, and the nodes to start from. Assumes nothing.
 use mathlib.Core.Path.{_≡_, refl, sym, ap, ap₂, _∙_, subst}
-use mathlib.Core.Bool.{false, _||_}
-use mathlib.Core.List.{List, [], _∷_, _++_, List·Memᴰ}
+use mathlib.Core.Bool.{false}
+use mathlib.Core.List.{List, [], _∷_, _++_, append-assoc, List·Memᴰ}
 use Prim.Native.Nat.{ℕ, _+_, _-_, _*_, _/_, _^_, _≤_, _<_}
-use native.Mathlib.Nat.{le-refl, sub-zero}
+use native.Mathlib.Nat.{le-refl}
 use native.Mathlib.Numerals.{add-one}
 use native.Mathlib.Omega.{arith}
 use lib.Count.{ones, ones-le}
 use lib.ListN.{getD, length, take, drop, set, length-set, length-append, length-drop, take-append-drop}
 use lib.Pow.{pow-lt, pow-pos, pow-mono}
-use lib.Seq.{take-suc-set, drop-set-lt, drop-drop, take-at, drop-at, length-take-le}
-use Rattle.base.specs.Lists.{tab, over}
-use Rattle.base.specs.ListLaws.{or-false}
+use lib.Seq.{take-suc-set, drop-set-lt, drop-append-le, drop-drop, take-at, drop-at, length-take-le}
+use Rattle.base.specs.Lists.{over}
 use Rattle.base.specs.TabLaws.{in-tab-by}
 use Rattle.dataflow_domains.specs.Mask.{holds, union, minus}
 use Rattle.dataflow_domains.specs.Members.{members, Lowest}
@@ -21,10 +20,10 @@ use Rattle.dataflow_domains.specs.MaskLaws.{union-comm, ones-insert, union-lt, 
 use Rattle.dataflow_domains.specs.HoldsLaws.{holds-false}
 use Rattle.borrow_analysis.specs.declared.triples.Triple.{Triple}
 use Rattle.borrow_analysis.specs.Graph.{tripleAt, triplesOf}
-use Rattle.borrow_analysis.specs.Borrows.{getParents, VisitedNodes, noneVisited, listNode, collectAncestors}
+use Rattle.borrow_analysis.specs.Borrows.{VisitedNodes, noneVisited, listNode, collectAncestors}
 use Rattle.borrow_analysis.specs.GraphParts.{NodesBelow}
-use Rattle.borrow_analysis.specs.Visiting.{visitedOf, VisitedBelow, VisitsWritten, VisitsSoFar, ParentVisits, AfterVisit, StartVisits, ListedBelow, VisitsGrow}
-use Rattle.borrow_analysis.specs.AncestorLaws.{collect-new, collect-grows, over-more, over-other, over-end}
+use Rattle.borrow_analysis.specs.Visiting.{visitedOf, VisitedBelow, VisitsWritten, VisitsSoFar, AfterVisit, StartVisits, ListedBelow, VisitsGrow}
+use Rattle.borrow_analysis.specs.AncestorLaws.{collect-grows}
 
 -- ---- the parents of triples are below what bounds their numbers
 
@@ -45,7 +44,7 @@ below-list {c} {m} {k} n w h e = record { ones = omega (arith, w .ones, ones-ins
 pub below-more : {c m k : ℕ} (n : ℕ) → VisitedBelow c m k → n < c → holds m n ≡ false → k < c
 below-more n w h e = omega (arith, below-fits (below-list n w h e))
 
-below-listed : {c m k : ℕ} (out : List ℕ) → c ≤ length out → VisitedBelow c m k → ListedBelow c (visitedOf m k out)
+pub below-listed : {c m k : ℕ} (out : List ℕ) → c ≤ length out → VisitedBelow c m k → ListedBelow c (visitedOf m k out)
 below-listed {c} {m} {k} out h w = record { each = length-take-le k out (omega (arith, below-fits w)) ∙ w .ones; small = w .small }
 
 -- ---- a node is listed
@@ -65,6 +64,12 @@ module _ {m k n m′ k′ : ℕ} (out out′ : List ℕ) (room : VisitedBelow (l
 
 -- ---- visits so far
 
+-- what is the same from one place on is the same from a later one on
+pub drop-further : {i j : ℕ} (a b : List ℕ) → i ≤ j → drop i a ≡ drop i b → drop j a ≡ drop j b
+drop-further {i} {j} a b h e =
+    let split : j ≡ i + (j - i) = omega arith in
+    ap (λ (k : ℕ). drop k a) split ∙ sym (drop-drop (j - i) i a) ∙ ap (drop (j - i)) e ∙ drop-drop (j - i) i b ∙ ap (λ (k : ℕ). drop k b) (sym split)
+
 pub visits-none : {c m k : ℕ} (out : List ℕ) → VisitedBelow c m k → c ≤ length out → VisitsSoFar c k out m k out
 visits-none {c} {m} {k} out w h = record { room = w; wide = h; more = omega arith; long = refl; rest = refl }
 
@@ -80,15 +85,13 @@ module _ (xs old : List ℕ) (k₀ used d n : ℕ) {c m k m′ k′ : ℕ} {out 
       let room : VisitedBelow c m′ k′ = record { ones = v .count ∙ grows .fair .each ∙ ap ones (sym (v .set)); small = subst (λ (x : ℕ). x < 2 ^ c) (sym (v .set)) (grows .fair .small) } in
       let front : take k′ out′ ≡ st .listed = ap (take k′) (v .wrote) ∙ take-at (st .listed) (drop (length (st .listed)) out) k′ (sym (v .count)) in
       let fell : k ≤ k′ = omega (arith, w .room .ones, room .ones, ones-mono m (st .mask) (grows .has), ap ones (v .set)) in
-      let split : k′ ≡ k + (k′ - k) = omega arith in
       record {
         going = record {
           room = room;
           wide = w .wide;
           more = omega (arith, w .more);
           long = ap length (v .wrote) ∙ length-append (st .listed) (drop (length (st .listed)) out) ∙ omega (arith, length-drop (length (st .listed)) out, w .long, w .wide, below-fits room, v .count);
-          rest = ap (drop k′) (v .wrote) ∙ drop-at (st .listed) (drop (length (st .listed)) out) k′ (sym (v .count)) ∙ ap (λ (j : ℕ). drop j out) (sym (v .count))
-              ∙ ap (λ (j : ℕ). drop j out) split ∙ sym (drop-drop (k′ - k) k out) ∙ ap (drop (k′ - k)) (w .rest) ∙ drop-drop (k′ - k) k old ∙ ap (λ (j : ℕ). drop j old) (sym split);
+          rest = ap (drop k′) (v .wrote) ∙ drop-at (st .listed) (drop (length (st .listed)) out) k′ (sym (v .count)) ∙ ap (λ (j : ℕ). drop j out) (sym (v .count)) ∙ drop-further out old fell (w .rest);
         };
         state = ap₂ (λ (a : ℕ) (l : List ℕ). record { mask = a; listed = l }) (v .set) front;
       }
@@ -105,70 +108,44 @@ pub written-same : {c m k : ℕ} (st : VisitedNodes) (out : List ℕ) → c ≤ 
 written-same st out h w e = visits-all st (visits-none out w h) e
 
 -- what a store at one of the listed places overwrote does not matter
-written-before : {m k : ℕ} {out : List ℕ} (st : VisitedNodes) (before : List ℕ) (j n : ℕ) → VisitsWritten st m k (set before j n) out → j < k → VisitsWritten st m k before out
+pub written-before : {m k : ℕ} {out : List ℕ} (st : VisitedNodes) (before : List ℕ) (j n : ℕ) → VisitsWritten st m k (set before j n) out → j < k → VisitsWritten st m k before out
 written-before st before j n v h =
     record { set = v .set; count = v .count; wrote = v .wrote ∙ ap (λ (l : List ℕ). st .listed ++ l) (drop-set-lt (length (st .listed)) before j n (omega (arith, v .count))) }
 
-module _ (xs : List ℕ) (used d x m₀ k₀ : ℕ) (old : List ℕ) where
-  pub parents-none : {i : ℕ} → i ≡ 0 → VisitedBelow (length old) m₀ k₀ → ParentVisits xs used d x m₀ k₀ old i m₀ k₀ old
-  parents-none e w = rw e (record {
-    going = visits-none old w (le-refl (length old));
-    work = ap (λ (j : ℕ). over (collectAncestors d (triplesOf xs) used) (visitedOf m₀ k₀ old) (getParents (tab j 0 (tripleAt xs)) x)) (sym (sub-zero (length xs / 3)));
-  })
-
-  module _ {i j m k c : ℕ} {out : List ℕ} (w : ParentVisits xs used d x m₀ k₀ old i m k out) (l : i < length xs / 3) (after : j ≡ i + 1) (child : c ≡ getD xs (3 * i + 1) 0) where
-    pub parents-more : {p m′ k′ : ℕ} {out′ : List ℕ} → NodesBelow (length old) xs → c ≡ x → p ≡ getD xs (3 * i) 0 → VisitsWritten (collectAncestors d (triplesOf xs) used (visitedOf m k out) p) m′ k′ out out′
-        → ParentVisits xs used d x m₀ k₀ old j m′ k′ out′
-    parents-more {p} {m′} {k′} {out′} ins e parent v =
-        let gone = visits-more xs old k₀ used d p ins (parent-below i ins parent l) (w .going) v in
-        rw after (record {
-          going = gone .going;
-          work = w .work ∙ over-more (collectAncestors d (triplesOf xs) used) (tripleAt xs) (length xs / 3) x (visitedOf m k out) i l (sym child ∙ e)
-              ∙ ap (λ (st : VisitedNodes). over (collectAncestors d (triplesOf xs) used) st (getParents (tab (length xs / 3 - (i + 1)) (i + 1) (tripleAt xs)) x))
-              (ap (collectAncestors d (triplesOf xs) used (visitedOf m k out)) (sym parent) ∙ sym (gone .state));
-        })
-
-    pub parents-same : (c ≡ x → ⊥) → ParentVisits xs used d x m₀ k₀ old j m k out
-    parents-same g = rw after (record {
-      going = w .going;
-      work = w .work ∙ over-other (collectAncestors d (triplesOf xs) used) (tripleAt xs) (length xs / 3) x (visitedOf m k out) i l (λ e. g (child ∙ e));
-    })
-
--- the whole visit of x, which was listed first
-module _ (xs : List ℕ) (used depth x m k : ℕ) (before : List ℕ) {m₀ k₀ : ℕ} {old : List ℕ} (room : VisitedBelow (length before) m k) (h : x < length before)
-    (new : holds m x || holds used x ≡ false) (set : m₀ ≡ union m (2 ^ x)) (count : k₀ ≡ k + 1) (wrote : old ≡ lib.ListN.set before k x) where
-  pub parents-all : {i m′ k′ : ℕ} {out : List ℕ} → 0 < depth → ParentVisits xs used (depth - 1) x m₀ k₀ old i m′ k′ out → length xs / 3 ≤ i
-      → VisitsWritten (collectAncestors depth (triplesOf xs) used (visitedOf m k before) x) m′ k′ before out
-  parents-all {i} {m′} {k′} {out} p w l =
-      written-before _ before k x
-      (subst (λ (l : List ℕ). VisitsWritten (collectAncestors depth (triplesOf xs) used (visitedOf m k before) x) m′ k′ l out) wrote
-      (visits-all _ (w .going)
-      (sym (over-end (collectAncestors (depth - 1) (triplesOf xs) used) (tripleAt xs) (length xs / 3) x (visitedOf m′ k′ out) i l) ∙ sym (w .work)
-      ∙ ap (λ (st : VisitedNodes). over (collectAncestors (depth - 1) (triplesOf xs) used) st (getParents (triplesOf xs) x)) (list-visited before old room h (or-false (holds m x) (holds used x) new .0) set count wrote)
-      ∙ collect-new (triplesOf xs) used (visitedOf m k before) x depth p new)))
-      (omega (arith, count, w .going .more))
+-- what stands behind the part that is written does not matter
+pub written-part : {m k : ℕ} {part : List ℕ} (st : VisitedNodes) (old : List ℕ) (c : ℕ) → c ≤ length old → VisitsWritten st m k (take c old) part → k ≤ c → VisitsWritten st m k old (part ++ drop c old)
+written-part st old c h v l =
+    let size = length-take-le c old h in
+    record {
+      set = v .set;
+      count = v .count;
+      wrote = ap (λ (x : List ℕ). x ++ drop c old) (v .wrote) ∙ append-assoc (st .listed) _ _
+          ∙ ap (λ (x : List ℕ). st .listed ++ x) (sym (drop-append-le (length (st .listed)) (take c old) (drop c old) (omega (arith, size, v .count))) ∙ ap (drop (length (st .listed))) (take-append-drop c old));
+    }
 
 -- ---- the visits from each node of a set
 
-module _ (xs : List ℕ) (used d from : ℕ) (old : List ℕ) where
-  pub starts-none : {m : ℕ} → from < 2 ^ d → d ≤ length old → m ≡ 0 → StartVisits xs used d from old from m 0 old
-  starts-none {m} h l e = record {
-    going = visits-none old (record { ones = sym (ap ones e ∙ ones-zero); small = subst (λ (x : ℕ). x < 2 ^ d) (sym e) (pow-pos d) }) l;
+module _ (xs : List ℕ) (used from : ℕ) (old : List ℕ) where
+  pub starts-none : {m : ℕ} → from < 2 ^ length old → m ≡ 0 → StartVisits xs used from old from m 0 old
+  starts-none {m} h e = record {
+    going = visits-none old (record { ones = sym (ap ones e ∙ ones-zero); small = subst (λ (x : ℕ). x < 2 ^ length old) (sym e) (pow-pos (length old)) }) (le-refl _);
     small = h;
-    work = ap (λ (x : ℕ). over (collectAncestors d (triplesOf xs) used) (record { mask = x; listed = [] }) (members d from)) (sym e);
+    work = ap (λ (x : ℕ). over (collectAncestors (length old) (triplesOf xs) used) (record { mask = x; listed = [] }) (members (length old) from)) (sym e);
   }
 
-  pub starts-more : {left next m k m′ k′ n : ℕ} {out out′ : List ℕ} → NodesBelow d xs → StartVisits xs used d from old left m k out → Lowest left n → next ≡ minus left (2 ^ n)
-      → VisitsWritten (collectAncestors d (triplesOf xs) used (visitedOf m k out) n) m′ k′ out out′ → StartVisits xs used d from old next m′ k′ out′
+  pub starts-more : {left next m k m′ k′ n : ℕ} {out out′ : List ℕ} → NodesBelow (length old) xs → StartVisits xs used from old left m k out → Lowest left n → next ≡ minus left (2 ^ n)
+      → VisitsWritten (collectAncestors (length out) (triplesOf xs) used (visitedOf m k out) n) m′ k′ out out′ → StartVisits xs used from old next m′ k′ out′
   starts-more {left} {next} {m} {k} {m′} {k′} {n} {out} {out′} ins w low e v =
-      let gone = visits-more xs old 0 used d n ins (lowest-lt left n d low (w .small)) (w .going) v in
+      let here : VisitsWritten (collectAncestors (length old) (triplesOf xs) used (visitedOf m k out) n) m′ k′ out out′ =
+      subst (λ (d : ℕ). VisitsWritten (collectAncestors d (triplesOf xs) used (visitedOf m k out) n) m′ k′ out out′) (w .going .long) v in
+      let gone = visits-more xs old 0 used (length old) n ins (lowest-lt left n (length old) low (w .small)) (w .going) here in
       record {
         going = gone .going;
-        small = subst (λ (x : ℕ). x < 2 ^ d) (sym e) (minus-lt d left (2 ^ n) (w .small));
-        work = w .work ∙ members-next (collectAncestors d (triplesOf xs) used) (visitedOf m k out) d left n low (w .small)
-            ∙ ap₂ (λ (st : VisitedNodes) (x : ℕ). over (collectAncestors d (triplesOf xs) used) st (members d x)) (sym (gone .state)) (sym e);
+        small = subst (λ (x : ℕ). x < 2 ^ length old) (sym e) (minus-lt (length old) left (2 ^ n) (w .small));
+        work = w .work ∙ members-next (collectAncestors (length old) (triplesOf xs) used) (visitedOf m k out) (length old) left n low (w .small)
+            ∙ ap₂ (λ (st : VisitedNodes) (x : ℕ). over (collectAncestors (length old) (triplesOf xs) used) st (members (length old) x)) (sym (gone .state)) (sym e);
       }
 
-  pub starts-all : {left m k : ℕ} {out : List ℕ} → StartVisits xs used d from old left m k out → left ≡ 0
-      → VisitsWritten (over (collectAncestors d (triplesOf xs) used) noneVisited (members d from)) m k old out
-  starts-all {left} {m} {k} {out} w e = visits-all _ (w .going) (sym (w .work ∙ members-end (collectAncestors d (triplesOf xs) used) (visitedOf m k out) d left e))
+  pub starts-all : {left m k : ℕ} {out : List ℕ} → StartVisits xs used from old left m k out → left ≡ 0
+      → VisitsWritten (over (collectAncestors (length old) (triplesOf xs) used) noneVisited (members (length old) from)) m k old out
+  starts-all {left} {m} {k} {out} w e = visits-all _ (w .going) (sym (w .work ∙ members-end (collectAncestors (length old) (triplesOf xs) used) (visitedOf m k out) (length old) left e))

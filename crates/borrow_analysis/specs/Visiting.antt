@@ -3,15 +3,15 @@ use mathlib.Core.Path.{_≡_}
 use mathlib.Core.Logic.{_⊎_}
 use mathlib.Core.Bool.{true}
 use mathlib.Core.List.{List, _++_, List·Memᴰ}
-use Prim.Native.Nat.{ℕ, _-_, _/_, _^_, _≤_, _<_}
+use Prim.Native.Nat.{ℕ, _^_, _≤_, _<_}
 use lib.Count.{ones}
 use lib.ListN.{length, take, drop}
-use Rattle.base.specs.Lists.{tab, over, Distinct}
+use Rattle.base.specs.Lists.{over, Distinct}
 use Rattle.dataflow_domains.specs.Mask.{bit, holds, Sub}
 use Rattle.dataflow_domains.specs.Members.{members}
 use Rattle.borrow_analysis.specs.declared.triples.Triple.{Triple}
-use Rattle.borrow_analysis.specs.Graph.{tripleAt, triplesOf}
-use Rattle.borrow_analysis.specs.Borrows.{getParents, VisitedNodes, noneVisited, collectAncestors}
+use Rattle.borrow_analysis.specs.Graph.{triplesOf}
+use Rattle.borrow_analysis.specs.Borrows.{VisitedNodes, noneVisited, collectAncestors}
 
 -- ---- visits in lent bytes
 
@@ -43,17 +43,12 @@ pub record AfterVisit (c : ℕ) (st : VisitedNodes) (k₀ : ℕ) (old : List ℕ
   pub going : VisitsSoFar c k₀ old m k out
   pub state : visitedOf m k out ≡ st
 
--- the loop over the triples at triple i, for the parents of x: what is left to do comes to what the whole comes to
-pub record ParentVisits (xs : List ℕ) (used d x m₀ k₀ : ℕ) (old : List ℕ) (i m k : ℕ) (out : List ℕ) : Type 0 where
-  pub going : VisitsSoFar (length old) k₀ old m k out
-  pub work : over (collectAncestors d (triplesOf xs) used) (visitedOf m₀ k₀ old) (getParents (triplesOf xs) x)
-      ≡ over (collectAncestors d (triplesOf xs) used) (visitedOf m k out) (getParents (tab (length xs / 3 - i) i (tripleAt xs)) x)
-
 -- the loop over the set `from` of the nodes to start from, when those of `left` are to come
-pub record StartVisits (xs : List ℕ) (used d from : ℕ) (old : List ℕ) (left m k : ℕ) (out : List ℕ) : Type 0 where
-  pub going : VisitsSoFar d 0 old m k out
-  pub small : left < 2 ^ d
-  pub work : over (collectAncestors d (triplesOf xs) used) noneVisited (members d from) ≡ over (collectAncestors d (triplesOf xs) used) (visitedOf m k out) (members d left)
+pub record StartVisits (xs : List ℕ) (used from : ℕ) (old : List ℕ) (left m k : ℕ) (out : List ℕ) : Type 0 where
+  pub going : VisitsSoFar (length old) 0 old m k out
+  pub small : left < 2 ^ length old
+  pub work : over (collectAncestors (length old) (triplesOf xs) used) noneVisited (members (length old) from)
+      ≡ over (collectAncestors (length old) (triplesOf xs) used) (visitedOf m k out) (members (length old) left)
 
 -- ---- visits of the definition
 

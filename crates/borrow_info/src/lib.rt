@@ -7,8 +7,8 @@ ghost use Rattle.base.specs.Refusals.{resultOf, answerOf, outputAfter};
 ghost use Rattle.borrow_analysis.specs.Graph.{graphInput, graphOf};
 ghost use Rattle.borrow_analysis.specs.Borrows.{inUseReply, conditionalReply, dyingReply};
 ghost use Rattle.borrow_analysis.specs.Meaning.{InUse, Conditional, DyingList, Decides};
-use crate::ancestors::collect_from;
 use crate::upward::above;
+use ancestors::collect_from;
 use base::Answer;
 use base::Checked;
 use base::Refusal;
@@ -18,7 +18,6 @@ use borrow_analysis::graph::live_set;
 use borrow_analysis::triples::many_in;
 
 pub mod upward; // upward.rt: up from a set of nodes
-pub mod ancestors; // ancestors.rt: the visits of dying nodes
 
 // Yes is 1, no is 0.
 fn yes_or_no(yes: bool) -> Answer
@@ -84,6 +83,6 @@ pub fn dying(
         return Answer::Refused(Refusal::OutputShort);
     }
     let used = above(next_triples, live_set(next_live), next_nodes as usize);
-    let seen = collect_from(triples, used, live_set(live), count, out);
+    let seen = collect_from(triples, used, live_set(live), &mut out[..count]);
     Answer::Value(seen.count as u32)
 }

@@ -20,6 +20,7 @@ use Rattle.eliminate_unused_vars.specs.Renumber.{hidesLocal, renumberedRest, re
 use Rattle.label.specs.LabelCall.{labelValue, labelReply}
 use Rattle.borrow_analysis.specs.Graph.{graphOf, nodesOk, rank, tripleOk, triplesBad, checkAsked, moved, checkGraphs}
 use Rattle.borrow_analysis.specs.Borrows.{getParents, incoming, parentsIn, upward, above, isInUse, manyIn, isConditional, collectAncestors, dyingNodesAt, dyingNodes, inUseReply, conditionalReply, dyingReply}
+use Rattle.ancestors.specs.Ancestors.{endOf, put, takeOff, firstNew, oneStep, walk, startAt}
 use Rattle.listing.specs.Words.{hexDigit, hex, decimalIn, decimal}
 use Rattle.listing.specs.Lines.{line, lines, textOf, refusedText, printed, livelist}
 use Rattle.class_set.specs.ClassSet.{startsAt, startsOf, sheetAt, checkClass, numbersOf, answersReply}
@@ -29,5 +30,5 @@ use Rattle.pages.specs.Page.{boundsText, leadsText, blockLine, flowText, unname
 use Rattle.worked.specs.Samples.{headingOf, plain, flagged, m1, m2, m2Unnamed, m3, m4, m5, m6, m4New, m5New, m6New, chain}
 
 unfoldable pub opened : Unit {0}
-unfolding tab keep count total joins gather over sum all any zeros has place firsts firstBad number bytesOf check whole _then_ lends reply resultOf bit holds union minus setOf unions news joined receive begin popped step run dstsOf srcsOf isExit isFlagged isJump isBranch fallsThrough branchDests labelOf lookup ascending successors blockAt checkOf countOf localsOf userLocalsOf parametersOf refsOf recordBlocks decode instructionAt codeOf padded encode blockOf bodyOf sheetOf lengthOk blockOk headingOk fits recordOk placeOk localsOk fresh namesOk checkForm checkCode checkSheet starts lowers blocksOf lowerOf upFrom upperOf keyed keyOf succKeys row flowTable flowReply nextsOf times predsFrom leadsTo assigned called execute executeAll restOf outOf analyzeFunction infoOf analyze liveBytes liveReply destroys destroyBlock blockSize isDead isMerged isDropped targetOf highest nextFreeLabel nextFreeAttr lostRefs isLosing labelFor attrFor goesTo standsFor keptCode blockOn addedCode transformCode numbersFit rewriteReply mentions staying newNumber remap remapSet hidesLocal renumberedRest renumberReply labelValue labelReply graphOf nodesOk rank tripleOk triplesBad checkAsked moved checkGraphs getParents incoming parentsIn upward above isInUse manyIn isConditional collectAncestors dyingNodesAt dyingNodes inUseReply conditionalReply dyingReply hexDigit hex decimalIn decimal line lines textOf refusedText printed livelist startsAt startsOf sheetAt checkClass numbersOf answersReply word marked listed names destinations branchLabels labels sources aborting does takes codeLine localsIn counts headingText codeText boundsText leadsText blockLine flowText unnamedText unnamedLabels unnamedLine setText liveLine liveText rewrittenText sections pageBy page headingOf plain flagged m1 m2 m2Unnamed m3 m4 m5 m6 m4New m5New m6New chain
+unfolding tab keep count total joins gather over sum all any zeros has place firsts firstBad number bytesOf check whole _then_ lends reply resultOf bit holds union minus setOf unions news joined receive begin popped step run dstsOf srcsOf isExit isFlagged isJump isBranch fallsThrough branchDests labelOf lookup ascending successors blockAt checkOf countOf localsOf userLocalsOf parametersOf refsOf recordBlocks decode instructionAt codeOf padded encode blockOf bodyOf sheetOf lengthOk blockOk headingOk fits recordOk placeOk localsOk fresh namesOk checkForm checkCode checkSheet starts lowers blocksOf lowerOf upFrom upperOf keyed keyOf succKeys row flowTable flowReply nextsOf times predsFrom leadsTo assigned called execute executeAll restOf outOf analyzeFunction infoOf analyze liveBytes liveReply destroys destroyBlock blockSize isDead isMerged isDropped targetOf highest nextFreeLabel nextFreeAttr lostRefs isLosing labelFor attrFor goesTo standsFor keptCode blockOn addedCode transformCode numbersFit rewriteReply mentions staying newNumber remap remapSet hidesLocal renumberedRest renumberReply labelValue labelReply graphOf nodesOk rank tripleOk triplesBad checkAsked moved checkGraphs getParents incoming parentsIn upward above isInUse manyIn isConditional collectAncestors dyingNodesAt dyingNodes inUseReply conditionalReply dyingReply endOf put takeOff firstNew oneStep walk startAt hexDigit hex decimalIn decimal line lines textOf refusedText printed livelist startsAt startsOf sheetAt checkClass numbersOf answersReply word marked listed names destinations branchLabels labels sources aborting does takes codeLine localsIn counts headingText codeText boundsText leadsText blockLine flowText unnamedText unnamedLabels unnamedLine setText liveLine liveText rewrittenText sections pageBy page headingOf plain flagged m1 m2 m2Unnamed m3 m4 m5 m6 m4New m5New m6New chain
 opened = tt

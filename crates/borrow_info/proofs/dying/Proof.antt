@@ -1,5 +1,7 @@
 -- `borrow_info::dying` meets its contract. Assumes nothing.
+use native.Mathlib.Omega.{arith}
 use mathlib.Core.Path.{sym, ap, _∙_, subst}
+use lib.Seq.{length-take-le}
 use Rattle.base.specs.declared.Refusal.the-variants.{OutputShort}
 use Rattle.base.specs.Refusals.{verdictOf}
 use Rattle.base.specs.ReplyLaws.{refuses, refused-number}
@@ -25,18 +27,28 @@ returns-2 c =
 above-requires : tie.Need-above-requires
 above-requires c κs = let ok = accepted-graphs _ _ (accepted-by _ (c .before .before .before .before .check-graphs .ensures) (c .before .before .enum-told .given .1)) in inside-wider _ (ok .1 .few) (ok .1 .inside)
 
+slice-relend-prefix-collect-from : tie.Need-slice-relend-prefix-collect-from
+slice-relend-prefix-collect-from c = c .before .before .before .if1 .left
+
+slice-aggregate-collect-from : tie.Need-slice-aggregate-collect-from
+slice-aggregate-collect-from c = sym (length-take-le _ (c .before .before .before .before .before .before .before .before .before .before .before .args .out .now) (c .before .before .before .before .if1 .left))
+
 collect-from-requires : tie.Need-collect-from-requires
 collect-from-requires c κs =
-    let p = c .before .before .before .before in
-    let ok = accepted-graphs _ _ (accepted-by _ (p .before .before .before .check-graphs .ensures) (p .before .enum-told .given .1)) in
-    (ok .0 .inside, ok .0 .few, p .if1 .left, rw (c .before .live-set2 .ensures) (ok .0 .small))
+    let ok = accepted-graphs _ _ (accepted-by _ (c .before .before .before .before .before .before .before .check-graphs .ensures) (c .before .before .before .before .before .enum-told .given .1)) .0 in
+    let a = c .before .before .before .before .before .before .before .before .before .before .before .args in
+    rw (length-take-le (a .nodes) (a .out .now) (c .before .before .before .before .if1 .left), c .before .live-set2 .ensures) (ok .inside, ok .few, ok .small)
+
+cast-t20 : tie.Need-cast-t20
+cast-t20 c =
+    let few = accepted-graphs _ _ (accepted-by _ (c .before .before .before .before .before .before .before .before .before .before .before .check-graphs .ensures) (c .before .before .before .before .before .before .before .before .before .enum-told .given .1)) .0 .few in
+    let a = c .before .before .before .before .before .before .before .before .before .before .before .before .before .before .before .args in
+    record { fits = omega (arith, few, c .before .before .before .collect-from .ensures .1, length-take-le (a .nodes) (a .out .now) (c .before .before .before .before .before .before .before .before .if1 .left)) }
 
 returns-3 : tie.Need-returns-3
 returns-3 c =
-    let p = c .before .before .before in
-    let fits = p .before .before .before .before .before in
-    let a = accepted-by _ (fits .before .before .before .check-graphs .ensures) (fits .before .enum-told .given .1) in
-    let r = dying-done _ _ _ a (fits .if1 .left) (p .before .before .before .above .ensures) (p .before .before .before .before .live-set .ensures) (p .before .before .live-set2 .ensures) (p .collect-from .ensures .0) in
+    let a = accepted-by _ (c .before .before .before .before .before .before .before .before .before .before .before .check-graphs .ensures) (c .before .before .before .before .before .before .before .before .before .enum-told .given .1) in
+    let r = dying-done _ _ _ a (c .before .before .before .before .before .before .before .before .if1 .left) (c .before .before .before .before .before .before .above .ensures) (c .before .before .before .before .before .before .before .live-set .ensures) (c .before .before .before .before .before .live-set2 .ensures) (c .before .before .before .collect-from .ensures) in
     (r .result, (r .written, λ z. subst (DyingList _ _) (sym (r .front)) (dying-means _ _ a)))
 
 pub dying-spec : {M : Type 1} → statement M
@@ -51,7 +63,9 @@ dying-spec =
     (λ c κs. search needs)
     above-requires
     (λ c κs. search needs)
+    slice-relend-prefix-collect-from
+    slice-aggregate-collect-from
     collect-from-requires
-    (λ c. search needs)
+    cast-t20
     (λ c. search needs)
     returns-3)

@@ -1,7 +1,7 @@
--- `borrow_info::ancestors::passed_over` meets its contract. Assumes nothing.
+-- `ancestors::passed_over` meets its contract. Assumes nothing.
 use borrow.Author.Needs.{needs}
-use Rattle.borrow_info.proofs.ancestors.passed_over.Statement.{statement}
-use Rattle.borrow_info.proofs.ancestors.passed_over.Tie as tie
+use Rattle.ancestors.proofs.passed_over.Statement.{statement}
+use Rattle.ancestors.proofs.passed_over.Tie as tie
 
 returns : tie.Need-returns
 returns c = rw (← (c .before .has .ensures), c .if1 .taken)

@@ -1,0 +1,8 @@
+-- What the public contracts and theorems say.
+pub mod Ancestors
+-- What the inner contracts say.
+pub mod Walking
+-- Laws.
+pub mod StepLaws
+pub mod StateLaws
+pub mod WalkingLaws

@@ -1,0 +1,208 @@
+// The walk over the ancestors of dying nodes: a list that grows and shrinks, which is the path. Assumes nothing.
+ghost use mathlib.Core.Path.{_≡_};
+ghost use mathlib.Core.Bool.{_||_};
+ghost use Prim.Native.Nat.{_+_, _-_, _/_, _^_, _<_, _≤_};
+ghost use lib.ListN.{length, getD, set};
+ghost use Rattle.base.specs.Sizes.{maxLocals};
+ghost use Rattle.base.specs.Lists.{over};
+ghost use Rattle.dataflow_domains.specs.Mask.{holds, union};
+ghost use Rattle.dataflow_domains.specs.Members.{members};
+ghost use Rattle.dataflow_domains.specs.Sets.{mask};
+ghost use Rattle.borrow_analysis.specs.Graph.{triplesOf};
+ghost use Rattle.borrow_analysis.specs.Borrows.{noneVisited, collectAncestors};
+ghost use Rattle.borrow_analysis.specs.GraphParts.{NodesBelow};
+ghost use Rattle.borrow_analysis.specs.Visiting.{visitedOf, VisitsWritten};
+ghost use Rattle.ancestors.specs.Ancestors.{passedOver};
+ghost use Rattle.ancestors.specs.Walking.{resting, Scanned, Found, Going, PutOn, Stepped};
+use base::MAX_LOCALS;
+use base::width::u8_to_usize;
+use borrow_analysis::triples::child_at;
+use borrow_analysis::triples::parent_at;
+use dataflow_domains::LiveVarState;
+
+// The nodes listed, and how many they are.
+pub struct Visited {
+    pub nodes: LiveVarState,
+    pub count: usize,
+}
+
+// The list's cursor: the list is in the first `len` places of a slice beside it.
+pub struct Path {
+    pub len: usize,
+}
+
+// A state of the walk.
+pub struct Walk {
+    pub visited: Visited,
+    pub path: Path,
+}
+
+impl Path {
+    // One more at the end.
+    pub fn put(self, list: &mut [u8], node: u8) -> Path
+        requires { ⌜ self .len < length (now list) ⌝ }
+        ensures { λ r. ⌜ (r .len ≡ self .len + 1) × (now (list .exit) ≡ set (now (list .entry)) (self .len) node) ⌝ }
+    {
+        let at = self.len;
+        list[at] = node;
+        Path { len: at + 1 }
+    }
+
+    // The end.
+    pub fn last(self, list: &[u8]) -> u8
+        requires { ⌜ (0 < self .len) × (self .len ≤ length (now list)) ⌝ }
+        ensures { λ r. ⌜ r ≡ getD (now (list .entry)) (self .len - 1) 0 ⌝ }
+    {
+        list[self.len - 1]
+    }
+
+    // The end is taken off.
+    pub fn take_off(self) -> Path
+        requires { ⌜ 0 < self .len ⌝ }
+        ensures { λ r. ⌜ r .len ≡ self .len - 1 ⌝ }
+    {
+        Path { len: self.len - 1 }
+    }
+}
+
+// Whether a node is listed or in use in the next graph.
+fn passed_over(nodes: LiveVarState, used: LiveVarState, node: u8) -> bool
+    requires { ⌜ node < maxLocals ⌝ }
+    ensures { λ r. ⌜ r ≡ passedOver (mask nodes) (mask used) node ⌝ }
+{
+    if nodes.has(node) {
+        return true;
+    }
+    used.has(node)
+}
+
+// The scan of a node for a parent that is not passed over, when the last `left` triples are before it: how many are then, and 0 where there is none.
+fn next_parent(
+    triples: &[u32],
+    nodes: LiveVarState,
+    used: LiveVarState,
+    node: u8,
+    left: usize,
+) -> usize
+    requires { ⌜ NodesBelow maxLocals (now triples) × Scanned (now triples) (mask nodes) (mask used) node left ⌝ }
+    ensures { λ r. ⌜ Scanned (now (triples .entry)) (mask nodes) (mask used) node r × (0 < r → Found (now (triples .entry)) (mask nodes) (mask used) node r) ⌝ }
+{
+    let n = triples.len() / 3;
+    let mut k = left;
+    while k > 0 {
+        let i = n - k;
+        if child_at(triples, i) == node {
+            if !passed_over(nodes, used, parent_at(triples, i)) {
+                return k;
+            }
+        }
+        k -= 1;
+    }
+    0
+}
+
+// A node is listed.
+fn list_node(seen: Visited, node: u8, out: &mut [u8]) -> Visited
+    requires { ⌜ (node < maxLocals) × (seen .count < length (now out)) ⌝ }
+    ensures { λ r. ⌜ (mask (r .nodes) ≡ union (mask (seen .nodes)) (2 ^ node)) × (r .count ≡ seen .count + 1) × (now (out .exit) ≡ set (now (out .entry)) (seen .count) node) ⌝ }
+{
+    let at = seen.count;
+    out[at] = node;
+    let nodes = seen.nodes;
+    Visited {
+        nodes: nodes.insert(node),
+        count: at + 1,
+    }
+}
+
+// A node is listed and put at the end of the list.
+fn put(walk: Walk, node: u8, list: &mut [u8], out: &mut [u8]) -> Walk
+    requires { ⌜ (node < maxLocals) × (walk .visited .count < length (now out)) × (walk .path .len < length (now list)) ⌝ }
+    ensures { λ r. ⌜ PutOn walk node (now (list .entry)) (now (out .entry)) r (now (list .exit)) (now (out .exit)) ⌝ }
+{
+    let path = walk.path;
+    Walk {
+        visited: list_node(walk.visited, node, out),
+        path: path.put(list, node),
+    }
+}
+
+// One step: the end's next parent that is not passed over is put, and where there is none the end is taken off. For each node the place of its scan is kept.
+fn step(
+    triples: &[u32],
+    used: LiveVarState,
+    walk: Walk,
+    list: &mut [u8],
+    kept: &mut [usize],
+    out: &mut [u8],
+) -> Walk
+    requires { ⌜ Going (now triples) (mask used) walk (now list) (now kept) (now out) × (0 < walk .path .len) ⌝ }
+    ensures { λ r. ⌜ Stepped (now (triples .entry)) (mask used) walk (now (list .entry)) (now (out .entry)) r (now (list .exit)) (now (kept .exit)) (now (out .exit)) ⌝ }
+{
+    let path = walk.path;
+    let visited = walk.visited;
+    let node = path.last(list);
+    let at = u8_to_usize(node);
+    let left = next_parent(triples, visited.nodes, used, node, kept[at]);
+    if left == 0 {
+        return Walk {
+            visited,
+            path: path.take_off(),
+        };
+    }
+    kept[at] = left - 1;
+    let n = triples.len() / 3;
+    put(walk, parent_at(triples, n - left), list, out)
+}
+
+// A node and then its ancestors, where not listed and not in `used`: the walk from it, until nothing is on the list.
+fn collect_ancestors(
+    triples: &[u32],
+    used: LiveVarState,
+    seen: Visited,
+    node: u8,
+    list: &mut [u8],
+    kept: &mut [usize],
+    out: &mut [u8],
+) -> Visited
+    requires { ⌜ Going (now triples) (mask used) (resting seen) (now list) (now kept) (now out) × (node < length (now out)) ⌝ }
+    ensures { λ r. ⌜ Going (now (triples .entry)) (mask used) (resting r) (now (list .exit)) (now (kept .exit)) (now (out .exit)) × VisitsWritten (collectAncestors (length (now (out .entry))) (triplesOf (now (triples .entry))) (mask used) (visitedOf (mask (seen .nodes)) (seen .count) (now (out .entry))) node) (mask (r .nodes)) (r .count) (now (out .entry)) (now (out .exit)) ⌝ }
+{
+    if passed_over(seen.nodes, used, node) {
+        return seen;
+    }
+    let start = Walk {
+        visited: seen,
+        path: Path { len: 0 },
+    };
+    let mut walk = put(start, node, list, out);
+    while walk.path.len > 0 {
+        walk = step(triples, used, walk, list, kept, out);
+    }
+    walk.visited
+}
+
+// The walks from each node of a set, ascending.
+pub fn collect_from(
+    triples: &[u32],
+    used: LiveVarState,
+    from: LiveVarState,
+    out: &mut [u8],
+) -> Visited
+    requires { ⌜ NodesBelow (length (now out)) (now triples) × (length (now out) ≤ maxLocals) × (mask from < 2 ^ length (now out)) ⌝ }
+    ensures { λ r. ⌜ VisitsWritten (over (collectAncestors (length (now (out .entry))) (triplesOf (now (triples .entry))) (mask used)) noneVisited (members (length (now (out .entry))) (mask from))) (mask (r .nodes)) (r .count) (now (out .entry)) (now (out .exit)) × (r .count ≤ length (now (out .entry))) ⌝ }
+{
+    let mut list = [0; MAX_LOCALS];
+    let mut kept = [triples.len() / 3; MAX_LOCALS];
+    let mut seen = Visited {
+        nodes: LiveVarState::empty(),
+        count: 0,
+    };
+    let mut left = from;
+    while !left.is_empty() {
+        let next = left.take_lowest();
+        seen = collect_ancestors(triples, used, seen, next.local, &mut list, &mut kept, out);
+        left = next.rest;
+    }
+    seen
+}
