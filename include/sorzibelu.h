@@ -14,7 +14,7 @@
  * A thread of SORZIBELU_STACK_BYTES is enough for every call but sorzibelu_page, which needs SORZIBELU_PAGE_STACK_BYTES:
  *
  *     check 16.1 KiB   flow 17.3 KiB   live 189.5 KiB   live_class 189.7 KiB   rewrite 205.6 KiB   renumber 45.3 KiB   label 16.2 KiB
- *     livelist 205.6 KiB   page 241.6 KiB   dying 9.3 KiB   in_use, conditional below 1 KiB
+ *     livelist 205.6 KiB   page 241.6 KiB   in_use, conditional, dying below 1 KiB
  */
 #ifndef SORZIBELU_H
 #define SORZIBELU_H

@@ -14,7 +14,7 @@ use Rattle.borrow_analysis.specs.Borrows.{getParents, above, VisitedNodes, none
 
 -- ---- states
 
--- the list, each node behind a child of it, and the nodes listed
+-- the list, and the nodes listed
 pub record WalkState : Type 0 where
   pub path : List ℕ
   pub visited : VisitedNodes
@@ -85,10 +85,11 @@ pub data Reached (here next : Graph) : ℕ → WalkState → Type 0 where
   start : {k : ℕ} {w : WalkState} (n : ℕ) → Reached here next k w → w .path ≡ [] → bit (here .live) n ≡ 1 → passedOver (w .visited .mask) (usedIn next) n ≡ false → Reached here next (suc k) (put w n)
   next-step : {k : ℕ} {w : WalkState} → Reached here next k w → 0 < length (w .path) → Reached here next (suc k) (oneStep (here .triples) (usedIn next) w)
 
--- the list has each node once, and none that is not listed; each listed node was put once, and taken off once unless it is on the list; there are no more steps than two a node
+-- the list has each node once, none that is not listed, and behind each node a parent of it: a path; each listed node was put once, and taken off once unless it is on the list; there are no more steps than two a node
 pub record InOrder (here : Graph) (k : ℕ) (w : WalkState) : Type 0 where
   pub once : Distinct (w .path)
   pub listed : (n : ℕ) → List·Memᴰ n (w .path) → List·Memᴰ n (w .visited .listed)
+  pub linked : (i : ℕ) → suc i < length (w .path) → List·Memᴰ (getD (w .path) (suc i) 0) (getParents (here .triples) (getD (w .path) i 0))
   pub steps : k + length (w .path) ≡ 2 * length (w .visited .listed)
   pub bound : k ≤ 2 * here .count
 

@@ -33,6 +33,32 @@ fn worked_graphs() {
     assert_eq!(conditional(Owned::new(41, &[], &doubled).graph(), 0), Ok(true));
 }
 
+/// The order of the walk: every graph of four nodes without a triple from a node to itself, under every live mask; and the longest paths.
+#[test]
+fn walks() {
+    let pairs: Vec<[u32; 3]> = (0..4).flat_map(|p| (0..4).filter(move |c| p != *c).map(move |c| [p, c, 0])).collect();
+    let none = Owned::default();
+    for bits in 0..1u32 << pairs.len() {
+        let triples: Vec<[u32; 3]> = pairs.iter().enumerate().filter(|(i, _)| bits >> i & 1 == 1).map(|(_, t)| *t).collect();
+        for live in 1..16u32 {
+            let g = Owned::new(4, &(0..4).filter(|x| live >> x & 1 == 1).collect::<Vec<_>>(), &triples);
+            assert_eq!(listed(&g, &none, 4), plain::dying(g.graph(), none.graph(), 4), "{g:?}");
+        }
+    }
+    // a path of 64 nodes, up and down, with 256 triples; the same closed to a cycle, and a node with 63 parents that have it as their only parent
+    let path: Vec<u8> = (0..64).collect();
+    let times = |p: u32| 4 + u32::from(p < 4);
+    let down: Vec<[u32; 3]> = (0..63).flat_map(|p| (0..times(p)).map(move |e| [p, p + 1, e])).collect();
+    let up: Vec<[u32; 3]> = (1..64).flat_map(|p| (0..times(p - 1)).map(move |e| [p, p - 1, e])).collect();
+    assert_eq!((down.len(), up.len()), (256, 256));
+    assert_eq!(listed(&Owned::new(64, &[63], &down), &none, 64), Ok(path.iter().rev().copied().collect()));
+    assert_eq!(listed(&Owned::new(64, &[0], &up), &none, 64), Ok(path.clone()));
+    let cycle: Vec<[u32; 3]> = (0..64).map(|p| [p, (p + 1) % 64, 0]).collect();
+    assert_eq!(listed(&Owned::new(64, &[0], &cycle), &none, 64), Ok(std::iter::once(0).chain((1..64).rev()).collect()));
+    let star: Vec<[u32; 3]> = (1..64).map(|c| [0, c, 0]).chain((1..64).map(|p| [p, 0, 0])).collect();
+    assert_eq!(listed(&Owned::new(64, &[0], &star), &none, 64), Ok(path));
+}
+
 #[test]
 fn refusals_and_their_order() {
     let fine = Owned::new(3, &[2], &[[0, 1, 0], [1, 2, 0]]);

@@ -337,6 +337,15 @@ fn main() {
     graphs("conditional, the same", call(|| conditional(black_box(l), 0)), CONDITIONAL, asked(l, 0));
     graphs("dying, the same, nothing live next", call(|| dying(black_box(l), black_box(gone), &mut rest)), DYING, [payload(l), payload(gone)].concat());
     graphs("in use, a chain of 40 doubled triples", call(|| in_use(black_box(d), 0)), IN_USE, asked(d, 0));
+    // the longest walks of dying nodes: a path of all nodes, and the triples shared out among its steps, from each child to the one parent
+    for (nodes, count) in [(64u32, 256u32), (64, 128), (32, 256), (32, 128)] {
+        let times = |p: u32| count / (nodes - 1) + u32::from(p < count % (nodes - 1));
+        let triples: Vec<u32> = (0..nodes - 1).flat_map(|p| (0..times(p)).flat_map(move |e| [p, p + 1, e])).collect();
+        let graph = |live| Graph { nodes, live, triples: &triples };
+        let (here, none, mut out) = (graph(1 << (nodes - 1)), graph(0), [0u8; 64]);
+        let name = format!("dying, a path of {nodes} nodes, {count} triples, nothing live next");
+        row(&name, call(|| dying(black_box(here), black_box(none), &mut out)), None, None, None);
+    }
 
     println!("\n| Class set of 16 sheets | One call | 16 calls of live | Ratio |\n|---|---|---|---|");
     let [straight, labels, looped, branches, ..] = [0, 1, 2, 3].map(|i| &sheets[i].1);
