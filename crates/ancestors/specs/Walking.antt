@@ -1,6 +1,6 @@
 -- What the contracts and the loops of the walk say: the state in the code's slices, the scans, and the walk so far. Assumes nothing.
 use mathlib.Core.Path.{_≡_}
-use mathlib.Core.Bool.{true, false}
+use mathlib.Core.Bool.{true}
 use mathlib.Core.List.{List, [], _∷_}
 use Prim.Native.Nat.{ℕ, suc, _+_, _-_, _*_, _/_, _^_, _≤_, _<_}
 use lib.ListN.{getD, length, take, drop, set}
@@ -15,6 +15,7 @@ use Rattle.borrow_analysis.specs.GraphParts.{NodesBelow}
 use Rattle.borrow_analysis.specs.Visiting.{visitedOf, VisitedBelow, VisitsSoFar, ListedBelow}
 use Rattle.ancestors.specs.declared.Visited.{Visited}
 use Rattle.ancestors.specs.declared.Walk.{Walk}
+use Rattle.ancestors.specs.Chains.{parentAt, childAt}
 use Rattle.ancestors.specs.Ancestors.{WalkState, passedOver, oneStep}
 
 -- ---- states
@@ -44,15 +45,11 @@ restFrom ts used c w = restOf (collectAncestors c ts used) ts (w .path) (w .visi
 
 -- ---- the scans
 
--- the scan of x through the triples xs has but the last `left` before it: each parent so far is passed over
-pub record Scanned (xs : List ℕ) (m used x left : ℕ) : Type 0 where
-  pub fits : left ≤ length xs / 3
-  pub passed : (i : ℕ) → i < length xs / 3 - left → getD xs (3 * i + 1) 0 ≡ x → passedOver m used (getD xs (3 * i) 0) ≡ true
-
--- and where it stands there is a parent that is not
-pub record Found (xs : List ℕ) (m used x left : ℕ) : Type 0 where
-  pub child : getD xs (3 * (length xs / 3 - left) + 1) 0 ≡ x
-  pub new : passedOver m used (getD xs (3 * (length xs / 3 - left)) 0) ≡ false
+-- the scan of x through its triples is at i, one of them or behind the last: each parent before it is passed over
+pub record Scanned (xs : List ℕ) (m used x i : ℕ) : Type 0 where
+  pub fits : i ≤ length xs / 3
+  pub own : i < length xs / 3 → childAt xs i ≡ x
+  pub passed : (t : ℕ) → t < i → childAt xs t ≡ x → passedOver m used (parentAt xs t) ≡ true
 
 -- the place of each node's scan is kept
 pub record Kept (xs : List ℕ) (m used : ℕ) (kept : List ℕ) : Type 0 where

@@ -9,12 +9,13 @@ use native.Mathlib.Numerals.{add-one}
 use native.Mathlib.Omega.{arith}
 use borrow.Author.Tests.{eq-eqb, ne-eqb}
 use lib.Count.{ones}
-use lib.ListN.{getD, length, take, drop, set, replicate, length-set, length-replicate, getD-replicate}
+use lib.ListN.{getD, length, take, drop, set, length-set}
 use lib.Pow.{pow-pos}
 use lib.Seq.{getD-set-same, getD-set-other, getD-take, take-take, take-suc-set, length-take-le, drop-set-lt}
 use Rattle.base.specs.Sizes.{maxLocals}
 use Rattle.base.specs.Lists.{tab}
 use Rattle.base.specs.ListLaws.{by-eq, or-false}
+use Rattle.base.specs.JoinLaws.{by-lt}
 use Rattle.base.specs.TabLaws.{tab-more, tab-end}
 use Rattle.dataflow_domains.specs.Mask.{holds, Sub}
 use Rattle.dataflow_domains.specs.MaskLaws.{sub-union-l, ones-zero}
@@ -28,30 +29,30 @@ use Rattle.borrow_analysis.specs.Visiting.{visitedOf, VisitedBelow, VisitsWritt
 use Rattle.borrow_analysis.specs.VisitLaws.{parents-below, parent-below, below-more, below-fits, below-listed, list-below, list-visited, drop-further, visits-none, visits-all, written-before}
 use Rattle.ancestors.specs.declared.Visited.{Visited}
 use Rattle.ancestors.specs.declared.Walk.{Walk}
+use Rattle.ancestors.specs.Chains.{parentAt, childAt, NextFrom, Firsts}
 use Rattle.ancestors.specs.Ancestors.{endOf, put, takeOff, passedOver, firstNew}
-use Rattle.ancestors.specs.Walking.{StateBelow, stateOf, resting, restFrom, Scanned, Found, Kept, Going, PutOn, Stepped, WalkSoFar}
+use Rattle.ancestors.specs.Walking.{StateBelow, stateOf, resting, restFrom, Scanned, Kept, Going, PutOn, Stepped, WalkSoFar}
 use Rattle.ancestors.specs.StepLaws.{passed-more, step-off, step-on, rest-step, rest-none, rest-put}
 
 -- ---- the scan
 
 module _ (xs : List ℕ) (m used x : ℕ) where
-  -- a triple that does not lead to x, or from a parent that is passed over
-  pub scan-other : {k : ℕ} → Scanned xs m used x k → 0 < k → (getD xs (3 * (length xs / 3 - k) + 1) 0 ≡ x → passedOver m used (getD xs (3 * (length xs / 3 - k)) 0) ≡ true) → Scanned xs m used x (k - 1)
-  scan-other {k} w h e = record {
-    fits = omega (arith, w .fits);
-    passed = λ i l. by-eq i (length xs / 3 - k) (λ s. subst (λ (j : ℕ). getD xs (3 * j + 1) 0 ≡ x → passedOver m used (getD xs (3 * j) 0) ≡ true) (sym s) e) (λ g. w .passed i (omega (arith, l, g, w .fits)));
+  -- on to the next triple of x, where the parent here is passed over
+  pub scan-on : {i j : ℕ} → Scanned xs m used x i → i < length xs / 3 → passedOver m used (parentAt xs i) ≡ true → NextFrom xs (childAt xs i) (suc i) j → Scanned xs m used x j
+  scan-on {i} {j} w h e next = record {
+    fits = next .fits;
+    own = λ l. next .own l ∙ w .own h;
+    passed = λ t l c. by-eq t i (λ s. subst (λ (k : ℕ). passedOver m used (parentAt xs k) ≡ true) (sym s) e)
+        (λ g. by-lt t i (λ d. w .passed t d c) (λ d. absurd (next .other t (omega (arith, d, g)) l (c ∙ sym (w .own h)))));
   }
 
   -- what is passed over does not count
-  scanned-new : (k : ℕ) → Scanned xs m used x k → (j : ℕ) → j ≤ length xs / 3 - k
-      → firstNew m used (getParents (triplesOf xs) x) ≡ firstNew m used (getParents (tab (length xs / 3 - j) j (tripleAt xs)) x)
+  scanned-new : (k : ℕ) → Scanned xs m used x k → (j : ℕ) → j ≤ k → firstNew m used (getParents (triplesOf xs) x) ≡ firstNew m used (getParents (tab (length xs / 3 - j) j (tripleAt xs)) x)
   unfolding firstNew getParents
   scanned-new k w zero h = ap (λ (i : ℕ). firstNew m used (getParents (tab i 0 (tripleAt xs)) x)) (sym (sub-zero (length xs / 3)))
   scanned-new k w (suc j) h =
-      scanned-new k w j (omega arith) ∙ ap (λ (l : List Triple). firstNew m used (getParents l x)) (tab-more (length xs / 3) j (tripleAt xs) (omega arith))
-      ∙ by-eq (getD xs (3 * j + 1) 0) x
-      (λ s. rw (eq-eqb (getD xs (3 * j + 1) 0) x s) (skip (w .passed j (omega arith) s)))
-      (λ g. rw (ne-eqb (getD xs (3 * j + 1) 0) x g) next)
+      scanned-new k w j (omega arith) ∙ ap (λ (l : List Triple). firstNew m used (getParents l x)) (tab-more (length xs / 3) j (tripleAt xs) (omega (arith, w .fits)))
+      ∙ by-eq (childAt xs j) x (λ s. rw (eq-eqb (childAt xs j) x s) (skip (w .passed j (omega arith) s))) (λ g. rw (ne-eqb (childAt xs j) x g) next)
     where
       rest : List ℕ
       rest = getParents (tab (length xs / 3 - (j + 1)) (j + 1) (tripleAt xs)) x
@@ -59,30 +60,26 @@ module _ (xs : List ℕ) (m used x : ℕ) where
       next : firstNew m used rest ≡ firstNew m used (getParents (tab (length xs / 3 - suc j) (suc j) (tripleAt xs)) x)
       next = ap (λ (i : ℕ). firstNew m used (getParents (tab (length xs / 3 - i) i (tripleAt xs)) x)) (omega arith)
 
-      skip : passedOver m used (getD xs (3 * j) 0) ≡ true
-          → cond (passedOver m used (getD xs (3 * j) 0)) (firstNew m used rest) (some (getD xs (3 * j) 0)) ≡ firstNew m used (getParents (tab (length xs / 3 - suc j) (suc j) (tripleAt xs)) x)
-      skip t = ap (λ (b : Bool). cond b (firstNew m used rest) (some (getD xs (3 * j) 0))) t ∙ next
+      skip : passedOver m used (parentAt xs j) ≡ true
+          → cond (passedOver m used (parentAt xs j)) (firstNew m used rest) (some (parentAt xs j)) ≡ firstNew m used (getParents (tab (length xs / 3 - suc j) (suc j) (tripleAt xs)) x)
+      skip t = ap (λ (b : Bool). cond b (firstNew m used rest) (some (parentAt xs j))) t ∙ next
 
   -- the scan came to the end: no parent is new
-  pub scan-end : Scanned xs m used x 0 → firstNew m used (getParents (triplesOf xs) x) ≡ none
+  pub scan-end : {i : ℕ} → length xs / 3 ≤ i → Scanned xs m used x i → firstNew m used (getParents (triplesOf xs) x) ≡ none
   unfolding firstNew getParents
-  scan-end w = scanned-new 0 w (length xs / 3) (omega arith) ∙ ap (λ (l : List Triple). firstNew m used (getParents l x)) (tab-end (length xs / 3) (length xs / 3) (tripleAt xs) (omega arith))
+  scan-end {i} h w = scanned-new i w (length xs / 3) h ∙ ap (λ (l : List Triple). firstNew m used (getParents l x)) (tab-end (length xs / 3) (length xs / 3) (tripleAt xs) (omega arith))
 
   -- it stands at a parent that is new: the first
-  pub scan-found : (k : ℕ) → 0 < k → Scanned xs m used x k → Found xs m used x k
-      → firstNew m used (getParents (triplesOf xs) x) ≡ some (getD xs (3 * (length xs / 3 - k)) 0)
+  pub scan-found : {i : ℕ} → i < length xs / 3 → Scanned xs m used x i → passedOver m used (parentAt xs i) ≡ false → firstNew m used (getParents (triplesOf xs) x) ≡ some (parentAt xs i)
   unfolding firstNew getParents
-  scan-found k h w f =
-      let i = length xs / 3 - k in
-      scanned-new k w i (omega arith) ∙ ap (λ (l : List Triple). firstNew m used (getParents l x)) (tab-more (length xs / 3) i (tripleAt xs) (omega (arith, w .fits)))
-      ∙ rw (eq-eqb (getD xs (3 * i + 1) 0) x (f .child))
-      (ap (λ (b : Bool). cond b (firstNew m used (getParents (tab (length xs / 3 - (i + 1)) (i + 1) (tripleAt xs)) x)) (some (getD xs (3 * i) 0)))
-      (f .new))
+  scan-found {i} h w new =
+      scanned-new i w i (omega arith) ∙ ap (λ (l : List Triple). firstNew m used (getParents l x)) (tab-more (length xs / 3) i (tripleAt xs) h)
+      ∙ rw (eq-eqb (childAt xs i) x (w .own h)) (ap (λ (b : Bool). cond b (firstNew m used (getParents (tab (length xs / 3 - (i + 1)) (i + 1) (tripleAt xs)) x)) (some (parentAt xs i))) new)
 
 -- ---- the kept places
 
 scanned-more : {xs : List ℕ} {m m₁ used x k : ℕ} → Sub m m₁ → Scanned xs m used x k → Scanned xs m₁ used x k
-scanned-more {xs} {used = used} s w = record { fits = w .fits; passed = λ i l e. passed-more used (getD xs (3 * i) 0) s (w .passed i l e) }
+scanned-more {xs} {used = used} s w = record { fits = w .fits; own = w .own; passed = λ i l e. passed-more used (getD xs (3 * i) 0) s (w .passed i l e) }
 
 kept-more : {xs kept : List ℕ} {m m₁ used : ℕ} → Sub m m₁ → Kept xs m used kept → Kept xs m₁ used kept
 kept-more s w = record { long = w .long; each = λ x h. scanned-more s (w .each x h) }
@@ -159,10 +156,10 @@ module _ (xs : List ℕ) (used : ℕ) (w : Walk) (list kept out : List ℕ) (goi
       let low : x < maxLocals = omega (arith, e, end-below) in
       (omega (arith, at, low, going .scans .long), subst (λ (j : ℕ). Scanned xs (mask (w .visited .nodes)) used x (getD kept j 0)) (sym at) (going .scans .each x low))
 
-  pub stepped-off : {w₁ : Walk} {x : ℕ} → x ≡ getD list (w .path .len - 1) 0 → Scanned xs (mask (w .visited .nodes)) used x 0 → w₁ .visited ≡ w .visited → w₁ .path .len ≡ w .path .len - 1
+  pub stepped-off : {w₁ : Walk} {x i : ℕ} → x ≡ getD list (w .path .len - 1) 0 → Scanned xs (mask (w .visited .nodes)) used x i → length xs / 3 ≤ i → w₁ .visited ≡ w .visited → w₁ .path .len ≡ w .path .len - 1
       → Stepped xs used w list out w₁ list kept out
   unfolding takeOff
-  stepped-off {w₁} {x} e scan same less = record {
+  stepped-off {w₁} {x} {i} e scan through same less = record {
     going = record {
       few = going .few;
       inside = going .inside;
@@ -174,23 +171,20 @@ module _ (xs : List ℕ) (used : ℕ) (w : Walk) (list kept out : List ℕ) (goi
     };
     state = ap₂ (λ (l : List ℕ) (v : Visited). record { path = l; visited = visitedOf (mask (v .nodes)) (v .count) out })
         (ap (λ (k : ℕ). take k list) less ∙ sym (take-take (w .path .len - 1) (w .path .len) list (omega arith)) ∙ ap (λ (k : ℕ). take (k - 1) (take (w .path .len) list)) (sym list-long)) same
-        ∙ sym (step-off (triplesOf xs) used (stateOf w list out) (ap (λ (y : ℕ). firstNew (mask (w .visited .nodes)) used (getParents (triplesOf xs) y)) (end-is ∙ sym e) ∙ scan-end xs _ used x scan));
+        ∙ sym (step-off (triplesOf xs) used (stateOf w list out) (ap (λ (y : ℕ). firstNew (mask (w .visited .nodes)) used (getParents (triplesOf xs) y)) (end-is ∙ sym e) ∙ scan-end xs _ used x through scan));
     less = omega (arith, less, h, ap (λ (v : Visited). v .count) same);
     more = omega (arith, ap (λ (v : Visited). v .count) same);
     same = refl;
     rest = refl;
   }
 
-  pub stepped-on : {w₁ : Walk} {list₁ out₁ : List ℕ} {x i k v p : ℕ} → x ≡ getD list (w .path .len - 1) 0 → i ≡ x → suc v ≡ k → Scanned xs (mask (w .visited .nodes)) used x k → Found xs (mask (w .visited .nodes)) used x k
-      → p ≡ getD xs (3 * (length xs / 3 - k)) 0 → PutOn w p list out w₁ list₁ out₁ → Stepped xs used w list out w₁ list₁ (set kept i v) out₁
-  stepped-on {w₁} {list₁} {out₁} {x} {i} {k} {v} {p} e at less scan found is on =
-      let more : 0 < k = omega (arith, less) in
+  pub stepped-on : {w₁ : Walk} {list₁ out₁ : List ℕ} {x at i v p : ℕ} → x ≡ getD list (w .path .len - 1) 0 → at ≡ x → Scanned xs (mask (w .visited .nodes)) used x i → i < length xs / 3
+      → NextFrom xs (childAt xs i) (suc i) v → p ≡ parentAt xs i → passedOver (mask (w .visited .nodes)) used p ≡ false → PutOn w p list out w₁ list₁ out₁ → Stepped xs used w list out w₁ list₁ (set kept at v) out₁
+  stepped-on {w₁} {list₁} {out₁} {x} {at} {i} {v} {p} e own scan low next is new on =
       let m = mask (w .visited .nodes) in
-      let low : p < length out = parent-below (length xs / 3 - k) (going .inside) is (omega (arith, more, scan .fits)) in
-      let new : passedOver m used p ≡ false = ap (passedOver m used) is ∙ found .new in
-      let after = put-going xs used w w₁ list kept out list₁ out₁ p going low new on in
-      let seen : passedOver (mask (w₁ .visited .nodes)) used (getD xs (3 * (length xs / 3 - k)) 0) ≡ true =
-      ap₂ (λ (a y : ℕ). passedOver a used y) (on .nodes) (sym is) ∙ ap (λ (b : Bool). b || holds used p) (holds-insert m p) in
+      let small : p < length out = parent-below i (going .inside) is low in
+      let after = put-going xs used w w₁ list kept out list₁ out₁ p going small new on in
+      let seen : passedOver (mask (w₁ .visited .nodes)) used (parentAt xs i) ≡ true = ap₂ (λ (a y : ℕ). passedOver a used y) (on .nodes) (sym is) ∙ ap (λ (b : Bool). b || holds used p) (holds-insert m p) in
       record {
         going = record {
           few = after .few;
@@ -199,15 +193,16 @@ module _ (xs : List ℕ) (used : ℕ) (w : Walk) (list kept out : List ℕ) (goi
           long = after .long;
           short = after .short;
           below = after .below;
-          scans = subst (λ (j : ℕ). Kept xs (mask (w₁ .visited .nodes)) used (set kept j v)) (sym at) (kept-set (omega (arith, e, end-below)) (subst (Scanned xs _ used x) (omega (arith, less)) (scan-other xs _ used x (scanned-more (subst (Sub m) (sym (on .nodes)) (sub-union-l m (2 ^ p))) scan) more (λ _. seen))) (after .scans));
+          scans = subst (λ (j : ℕ). Kept xs (mask (w₁ .visited .nodes)) used (set kept j v)) (sym own)
+              (kept-set (omega (arith, e, end-below)) (scan-on xs _ used x (scanned-more (subst (Sub m) (sym (on .nodes)) (sub-union-l m (2 ^ p))) scan) low seen next) (after .scans));
         };
-        state = put-state xs used w w₁ list kept out list₁ out₁ p going low new on
+        state = put-state xs used w w₁ list kept out list₁ out₁ p going small new on
             ∙ sym (step-on (triplesOf xs) used (stateOf w list out) p
-            (ap (λ (y : ℕ). firstNew (mask (w .visited .nodes)) used (getParents (triplesOf xs) y)) (end-is ∙ sym e) ∙ scan-found xs m used x k more scan found ∙ ap (λ (y : ℕ). some y) (sym is)));
-        less = omega (arith, on .count, on .len, put-room going low new .0);
+            (ap (λ (y : ℕ). firstNew m used (getParents (triplesOf xs) y)) (end-is ∙ sym e) ∙ scan-found xs m used x low scan (ap (passedOver m used) (sym is) ∙ new) ∙ ap (λ (y : ℕ). some y) (sym is)));
+        less = omega (arith, on .count, on .len, put-room going small new .0);
         more = omega (arith, on .count);
-        same = same-length xs used w w₁ list kept out list₁ out₁ p going low new on;
-        rest = put-rest xs used w w₁ list kept out list₁ out₁ p going low new on;
+        same = same-length xs used w w₁ list kept out list₁ out₁ p going small new on;
+        rest = put-rest xs used w w₁ list kept out list₁ out₁ p going small new on;
       }
 
 -- ---- the walk from a node
@@ -265,10 +260,10 @@ walk-whole xs used seen list kept old n {w₀} {w} {list₀} {out₀} {list₁} 
     long : length out₀ ≡ length old
     long = same-length xs used (resting seen) w₀ list kept old list₀ out₀ n g low new on
 
--- before the first walk: nothing is listed, and all scans are before the first triple
-pub begins : (xs : List ℕ) (used : ℕ) (seen : Visited) (list out : List ℕ) → NodesBelow (length out) xs → length out ≤ maxLocals → mask (seen .nodes) ≡ 0 → seen .count ≡ 0 → length list ≡ maxLocals
-    → Going xs used (resting seen) list (replicate maxLocals (length xs / 3)) out
-begins xs used seen list out ins few blank counted long = record {
+-- before the first walk: nothing is listed, and each scan is at the first triple of its node
+pub begins : (xs : List ℕ) (used : ℕ) (seen : Visited) (list kept out : List ℕ) → NodesBelow (length out) xs → length out ≤ maxLocals → mask (seen .nodes) ≡ 0 → seen .count ≡ 0 → length list ≡ maxLocals → Firsts xs 0 kept
+    → Going xs used (resting seen) list kept out
+begins xs used seen list kept out ins few blank counted long firsts = record {
   few = few;
   inside = ins;
   room = record { ones = counted ∙ sym (ap ones blank ∙ ones-zero); small = subst (λ (m : ℕ). m < 2 ^ length out) (sym blank) (pow-pos (length out)) };
@@ -276,7 +271,7 @@ begins xs used seen list out ins few blank counted long = record {
   short = omega arith;
   below = λ i h. absurd (omega arith);
   scans = record {
-    long = length-replicate maxLocals (length xs / 3);
-    each = λ x h. subst (Scanned xs (mask (seen .nodes)) used x) (sym (getD-replicate maxLocals x (length xs / 3) 0 h)) (record { fits = le-refl _; passed = λ i l e. absurd (omega (arith, l)) });
+    long = firsts .long;
+    each = λ x h. let w = firsts .each x h in record { fits = w .fits; own = w .own; passed = λ t l e. absurd (w .other t (omega arith) l e) };
   };
 }

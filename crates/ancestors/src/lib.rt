@@ -1,9 +1,9 @@
 // The walk over the ancestors of dying nodes: a list that grows and shrinks, which is the path. Assumes nothing.
 ghost use mathlib.Core.Path.{_≡_};
-ghost use mathlib.Core.Bool.{_||_};
+ghost use mathlib.Core.Bool.{false};
 ghost use Prim.Native.Nat.{_+_, _-_, _/_, _^_, _<_, _≤_};
 ghost use lib.ListN.{length, getD, set};
-ghost use Rattle.base.specs.Sizes.{maxLocals};
+ghost use Rattle.base.specs.Sizes.{maxLocals, maxTriples};
 ghost use Rattle.base.specs.Lists.{over};
 ghost use Rattle.dataflow_domains.specs.Mask.{holds, union};
 ghost use Rattle.dataflow_domains.specs.Members.{members};
@@ -13,12 +13,17 @@ ghost use Rattle.borrow_analysis.specs.Borrows.{noneVisited, collectAncestors};
 ghost use Rattle.borrow_analysis.specs.GraphParts.{NodesBelow};
 ghost use Rattle.borrow_analysis.specs.Visiting.{visitedOf, VisitsWritten};
 ghost use Rattle.ancestors.specs.Ancestors.{passedOver};
-ghost use Rattle.ancestors.specs.Walking.{resting, Scanned, Found, Going, PutOn, Stepped};
+ghost use Rattle.ancestors.specs.Chains.{parentAt, Chained};
+ghost use Rattle.ancestors.specs.Walking.{resting, Scanned, Going, PutOn, Stepped};
+use crate::chain::chain;
 use base::MAX_LOCALS;
+use base::MAX_TRIPLES;
 use base::width::u8_to_usize;
-use borrow_analysis::triples::child_at;
+use base::width::u16_to_usize;
 use borrow_analysis::triples::parent_at;
 use dataflow_domains::LiveVarState;
+
+pub mod chain; // chain.rt: the triples, chained by the node that they lead to
 
 // The nodes listed, and how many they are.
 pub struct Visited {
@@ -76,29 +81,27 @@ fn passed_over(nodes: LiveVarState, used: LiveVarState, node: u8) -> bool
     used.has(node)
 }
 
-// The scan of a node for a parent that is not passed over, when the last `left` triples are before it: how many are then, and 0 where there is none.
+// The scan of a node for a parent that is not passed over, from triple `from` on, one of its own: where it stands then, and behind the last triple where there is none.
 fn next_parent(
     triples: &[u32],
     nodes: LiveVarState,
     used: LiveVarState,
+    next: &[u16],
     node: u8,
-    left: usize,
+    from: usize,
 ) -> usize
-    requires { ⌜ NodesBelow maxLocals (now triples) × Scanned (now triples) (mask nodes) (mask used) node left ⌝ }
-    ensures { λ r. ⌜ Scanned (now (triples .entry)) (mask nodes) (mask used) node r × (0 < r → Found (now (triples .entry)) (mask nodes) (mask used) node r) ⌝ }
+    requires { ⌜ NodesBelow maxLocals (now triples) × Chained (now triples) 0 (now next) × Scanned (now triples) (mask nodes) (mask used) node from ⌝ }
+    ensures { λ r. ⌜ Scanned (now (triples .entry)) (mask nodes) (mask used) node r × (r < length (now (triples .entry)) / 3 → passedOver (mask nodes) (mask used) (parentAt (now (triples .entry)) r) ≡ false) ⌝ }
 {
     let n = triples.len() / 3;
-    let mut k = left;
-    while k > 0 {
-        let i = n - k;
-        if child_at(triples, i) == node {
-            if !passed_over(nodes, used, parent_at(triples, i)) {
-                return k;
-            }
+    let mut i = from;
+    while i < n {
+        if !passed_over(nodes, used, parent_at(triples, i)) {
+            return i;
         }
-        k -= 1;
+        i = u16_to_usize(next[i]);
     }
-    0
+    i
 }
 
 // A node is listed.
@@ -131,41 +134,44 @@ fn put(walk: Walk, node: u8, list: &mut [u8], out: &mut [u8]) -> Walk
 fn step(
     triples: &[u32],
     used: LiveVarState,
+    next: &[u16],
     walk: Walk,
     list: &mut [u8],
-    kept: &mut [usize],
+    kept: &mut [u16],
     out: &mut [u8],
 ) -> Walk
-    requires { ⌜ Going (now triples) (mask used) walk (now list) (now kept) (now out) × (0 < walk .path .len) ⌝ }
+    requires { ⌜ Chained (now triples) 0 (now next) × Going (now triples) (mask used) walk (now list) (now kept) (now out) × (0 < walk .path .len) ⌝ }
     ensures { λ r. ⌜ Stepped (now (triples .entry)) (mask used) walk (now (list .entry)) (now (out .entry)) r (now (list .exit)) (now (kept .exit)) (now (out .exit)) ⌝ }
 {
     let path = walk.path;
     let visited = walk.visited;
     let node = path.last(list);
     let at = u8_to_usize(node);
-    let left = next_parent(triples, visited.nodes, used, node, kept[at]);
-    if left == 0 {
+    let from = u16_to_usize(kept[at]);
+    let i = next_parent(triples, visited.nodes, used, next, node, from);
+    let n = triples.len() / 3;
+    if i >= n {
         return Walk {
             visited,
             path: path.take_off(),
         };
     }
-    kept[at] = left - 1;
-    let n = triples.len() / 3;
-    put(walk, parent_at(triples, n - left), list, out)
+    kept[at] = next[i];
+    put(walk, parent_at(triples, i), list, out)
 }
 
 // A node and then its ancestors, where not listed and not in `used`: the walk from it, until nothing is on the list.
 fn collect_ancestors(
     triples: &[u32],
     used: LiveVarState,
+    next: &[u16],
     seen: Visited,
     node: u8,
     list: &mut [u8],
-    kept: &mut [usize],
+    kept: &mut [u16],
     out: &mut [u8],
 ) -> Visited
-    requires { ⌜ Going (now triples) (mask used) (resting seen) (now list) (now kept) (now out) × (node < length (now out)) ⌝ }
+    requires { ⌜ Chained (now triples) 0 (now next) × Going (now triples) (mask used) (resting seen) (now list) (now kept) (now out) × (node < length (now out)) ⌝ }
     ensures { λ r. ⌜ Going (now (triples .entry)) (mask used) (resting r) (now (list .exit)) (now (kept .exit)) (now (out .exit)) × VisitsWritten (collectAncestors (length (now (out .entry))) (triplesOf (now (triples .entry))) (mask used) (visitedOf (mask (seen .nodes)) (seen .count) (now (out .entry))) node) (mask (r .nodes)) (r .count) (now (out .entry)) (now (out .exit)) ⌝ }
 {
     if passed_over(seen.nodes, used, node) {
@@ -177,7 +183,7 @@ fn collect_ancestors(
     };
     let mut walk = put(start, node, list, out);
     while walk.path.len > 0 {
-        walk = step(triples, used, walk, list, kept, out);
+        walk = step(triples, used, next, walk, list, kept, out);
     }
     walk.visited
 }
@@ -189,20 +195,31 @@ pub fn collect_from(
     from: LiveVarState,
     out: &mut [u8],
 ) -> Visited
-    requires { ⌜ NodesBelow (length (now out)) (now triples) × (length (now out) ≤ maxLocals) × (mask from < 2 ^ length (now out)) ⌝ }
+    requires { ⌜ NodesBelow (length (now out)) (now triples) × (length (now out) ≤ maxLocals) × (length (now triples) / 3 ≤ maxTriples) × (mask from < 2 ^ length (now out)) ⌝ }
     ensures { λ r. ⌜ VisitsWritten (over (collectAncestors (length (now (out .entry))) (triplesOf (now (triples .entry))) (mask used)) noneVisited (members (length (now (out .entry))) (mask from))) (mask (r .nodes)) (r .count) (now (out .entry)) (now (out .exit)) × (r .count ≤ length (now (out .entry))) ⌝ }
 {
     let mut list = [0; MAX_LOCALS];
-    let mut kept = [triples.len() / 3; MAX_LOCALS];
+    let mut kept = [(triples.len() / 3) as u16; MAX_LOCALS];
+    let mut next = [0; MAX_TRIPLES];
+    chain(triples, &mut kept, &mut next);
     let mut seen = Visited {
         nodes: LiveVarState::empty(),
         count: 0,
     };
     let mut left = from;
     while !left.is_empty() {
-        let next = left.take_lowest();
-        seen = collect_ancestors(triples, used, seen, next.local, &mut list, &mut kept, out);
-        left = next.rest;
+        let lowest = left.take_lowest();
+        seen = collect_ancestors(
+            triples,
+            used,
+            &next,
+            seen,
+            lowest.local,
+            &mut list,
+            &mut kept,
+            out,
+        );
+        left = lowest.rest;
     }
     seen
 }

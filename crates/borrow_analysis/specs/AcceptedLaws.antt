@@ -30,21 +30,25 @@ ok-inside count xs i e =
     let q = and-true (ltb (getD xs (3 * i) 0) count) (ltb (getD xs (3 * i + 1) 0) count) (r .0) in
     (ltb-true _ _ (q .0), ltb-true _ _ (q .1))
 
-none-bad : (b : Bool) (o : Option ℕ) → cond b o (some lengthPlace) ≡ none → o ≡ none
-none-bad true o f = f
+none-bad : (b : Bool) (o : Option ℕ) → cond b o (some lengthPlace) ≡ none → (b ≡ true) × (o ≡ none)
+none-bad true o f = (refl, f)
 none-bad false o f = absurd (let z : _≡_ {A = ℕ} 0 1 = cc in omega arith)
 
 inside-of : (count : ℕ) (xs : List ℕ) → triplesBad count xs ≡ none → NodesBelow count xs
 unfolding triplesBad
 inside-of count xs e =
     let n = length xs in
-    let ok : (i : ℕ) → i < n / 3 → tripleOk count xs i ≡ true = λ i h. none-all (n / 3) 0 (tripleOk count xs) (none-bad (eqb (n % 3) 0 && leb (n / 3) maxTriples) _ e) i (omega arith) (omega arith) in
+    let ok : (i : ℕ) → i < n / 3 → tripleOk count xs i ≡ true = λ i h. none-all (n / 3) 0 (tripleOk count xs) (none-bad (eqb (n % 3) 0 && leb (n / 3) maxTriples) _ e .1) i (omega arith) (omega arith) in
     record { parents = λ i h. ok-inside count xs i (ok i h) .0; children = λ i h. ok-inside count xs i (ok i h) .1 }
+
+short-of : (count : ℕ) (xs : List ℕ) → triplesBad count xs ≡ none → length xs / 3 ≤ maxTriples
+unfolding triplesBad
+short-of count xs e = let n = length xs in leb-true _ _ (and-true (eqb (n % 3) 0) (leb (n / 3) maxTriples) (none-bad (eqb (n % 3) 0 && leb (n / 3) maxTriples) _ e .0) .1)
 
 accepted-graph : (g : GraphInput) → nodesOk (g .count) (g .live) ≡ true → triplesBad (g .count) (g .numbers) ≡ none → AcceptedGraph g
 unfolding nodesOk
 accepted-graph g a o = let r = and-true (leb (g .count) maxLocals) (ltb (g .live) (2 ^ g .count)) a in
-    record { few = leb-true _ _ (r .0); small = ltb-true _ _ (r .1); inside = inside-of (g .count) (g .numbers) o }
+    record { few = leb-true _ _ (r .0); short = short-of (g .count) (g .numbers) o; small = ltb-true _ _ (r .1); inside = inside-of (g .count) (g .numbers) o }
 
 -- accepted: the graph is, and the asked node is one of it
 pub accepted-asked : (g : GraphInput) (node : ℕ) → checkAsked g node ≡ Accepted → AcceptedGraph g × (node < g .count)

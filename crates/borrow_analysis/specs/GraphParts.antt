@@ -5,7 +5,7 @@ use mathlib.Core.List.{List}
 use Prim.Native.Nat.{ℕ, _+_, _-_, _*_, _/_, _^_, _≤_, _<_}
 use lib.Dec.{ltb}
 use lib.ListN.{getD, length}
-use Rattle.base.specs.Sizes.{maxLocals}
+use Rattle.base.specs.Sizes.{maxLocals, maxTriples}
 use Rattle.base.specs.Lists.{tab}
 use Rattle.dataflow_domains.specs.Mask.{bit, holds, union, Sub}
 use Rattle.borrow_analysis.specs.declared.triples.Triple.{Triple}
@@ -19,9 +19,10 @@ pub record NodesBelow (c : ℕ) (xs : List ℕ) : Type 0 where
   pub parents : (i : ℕ) → i < length xs / 3 → getD xs (3 * i) 0 < c
   pub children : (i : ℕ) → i < length xs / 3 → getD xs (3 * i + 1) 0 < c
 
--- few nodes, the live ones among them, and so all nodes that triples name
+-- few nodes, the live ones among them, and so all nodes that triples name; few triples
 pub record AcceptedGraph (g : GraphInput) : Type 0 where
   pub few : g .count ≤ maxLocals
+  pub short : length (g .numbers) / 3 ≤ maxTriples
   pub small : g .live < 2 ^ g .count
   pub inside : NodesBelow (g .count) (g .numbers)
 

@@ -37,7 +37,7 @@ collect-from-requires : tie.Need-collect-from-requires
 collect-from-requires c κs =
     let ok = accepted-graphs _ _ (accepted-by _ (c .before .before .before .before .before .before .before .check-graphs .ensures) (c .before .before .before .before .before .enum-told .given .1)) .0 in
     let a = c .before .before .before .before .before .before .before .before .before .before .before .args in
-    rw (length-take-le (a .nodes) (a .out .now) (c .before .before .before .before .if1 .left), c .before .live-set2 .ensures) (ok .inside, ok .few, ok .small)
+    rw (length-take-le (a .nodes) (a .out .now) (c .before .before .before .before .if1 .left), c .before .live-set2 .ensures) (ok .inside, ok .few, ok .short, ok .small)
 
 cast-t20 : tie.Need-cast-t20
 cast-t20 c =
