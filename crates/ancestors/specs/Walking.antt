@@ -51,6 +51,10 @@ pub record Scanned (xs : List ℕ) (m used x i : ℕ) : Type 0 where
   pub own : i < length xs / 3 → childAt xs i ≡ x
   pub passed : (t : ℕ) → t < i → childAt xs t ≡ x → passedOver m used (parentAt xs t) ≡ true
 
+-- a scan that is at i can go on to j, whatever its node is
+pub record ScansOn (xs : List ℕ) (m used i j : ℕ) : Type 0 where
+  pub each : (x : ℕ) → Scanned xs m used x i → Scanned xs m used x j
+
 -- the place of each node's scan is kept
 pub record Kept (xs : List ℕ) (m used : ℕ) (kept : List ℕ) : Type 0 where
   pub long : length kept ≡ maxLocals

@@ -31,21 +31,27 @@ use Rattle.ancestors.specs.declared.Visited.{Visited}
 use Rattle.ancestors.specs.declared.Walk.{Walk}
 use Rattle.ancestors.specs.Chains.{parentAt, childAt, NextFrom, Firsts}
 use Rattle.ancestors.specs.Ancestors.{endOf, put, takeOff, passedOver, firstNew}
-use Rattle.ancestors.specs.Walking.{StateBelow, stateOf, resting, restFrom, Scanned, Kept, Going, PutOn, Stepped, WalkSoFar}
+use Rattle.ancestors.specs.Walking.{StateBelow, stateOf, resting, restFrom, Scanned, ScansOn, Kept, Going, PutOn, Stepped, WalkSoFar}
 use Rattle.ancestors.specs.StepLaws.{passed-more, step-off, step-on, rest-step, rest-none, rest-put}
 
 -- ---- the scan
 
-module _ (xs : List ℕ) (m used x : ℕ) where
-  -- on to the next triple of x, where the parent here is passed over
-  pub scan-on : {i j : ℕ} → Scanned xs m used x i → i < length xs / 3 → passedOver m used (parentAt xs i) ≡ true → NextFrom xs (childAt xs i) (suc i) j → Scanned xs m used x j
-  scan-on {i} {j} w h e next = record {
-    fits = next .fits;
-    own = λ l. next .own l ∙ w .own h;
-    passed = λ t l c. by-eq t i (λ s. subst (λ (k : ℕ). passedOver m used (parentAt xs k) ≡ true) (sym s) e)
-        (λ g. by-lt t i (λ d. w .passed t d c) (λ d. absurd (next .other t (omega (arith, d, g)) l (c ∙ sym (w .own h)))));
-  }
+-- on to the next triple that leads to the same node, where the parent here is passed over
+scan-next : {xs : List ℕ} {m used x i j : ℕ} → Scanned xs m used x i → i < length xs / 3 → passedOver m used (parentAt xs i) ≡ true → NextFrom xs (childAt xs i) (suc i) j → Scanned xs m used x j
+scan-next {xs} {m} {used} {x} {i} {j} w h e next = record {
+  fits = next .fits;
+  own = λ l. next .own l ∙ w .own h;
+  passed = λ t l c. by-eq t i (λ s. subst (λ (k : ℕ). passedOver m used (parentAt xs k) ≡ true) (sym s) e)
+      (λ g. by-lt t i (λ d. w .passed t d c) (λ d. absurd (next .other t (omega (arith, d, g)) l (c ∙ sym (w .own h)))));
+}
 
+pub scans-none : (xs : List ℕ) (m used i : ℕ) → ScansOn xs m used i i
+scans-none xs m used i = record { each = λ x w. w }
+
+pub scans-more : {xs : List ℕ} {m used i j k l : ℕ} → ScansOn xs m used i j → j < length xs / 3 → passedOver m used (parentAt xs j) ≡ true → NextFrom xs (childAt xs j) (suc j) k → l ≡ k → ScansOn xs m used i l
+scans-more {xs} {m} {used} w h e next is = record { each = λ x v. subst (Scanned xs m used x) (sym is) (scan-next (w .each x v) h e next) }
+
+module _ (xs : List ℕ) (m used x : ℕ) where
   -- what is passed over does not count
   scanned-new : (k : ℕ) → Scanned xs m used x k → (j : ℕ) → j ≤ k → firstNew m used (getParents (triplesOf xs) x) ≡ firstNew m used (getParents (tab (length xs / 3 - j) j (tripleAt xs)) x)
   unfolding firstNew getParents
@@ -194,7 +200,7 @@ module _ (xs : List ℕ) (used : ℕ) (w : Walk) (list kept out : List ℕ) (goi
           short = after .short;
           below = after .below;
           scans = subst (λ (j : ℕ). Kept xs (mask (w₁ .visited .nodes)) used (set kept j v)) (sym own)
-              (kept-set (omega (arith, e, end-below)) (scan-on xs _ used x (scanned-more (subst (Sub m) (sym (on .nodes)) (sub-union-l m (2 ^ p))) scan) low seen next) (after .scans));
+              (kept-set (omega (arith, e, end-below)) (scan-next (scanned-more (subst (Sub m) (sym (on .nodes)) (sub-union-l m (2 ^ p))) scan) low seen next) (after .scans));
         };
         state = put-state xs used w w₁ list kept out list₁ out₁ p going small new on
             ∙ sym (step-on (triplesOf xs) used (stateOf w list out) p

@@ -14,7 +14,7 @@ ghost use Rattle.borrow_analysis.specs.GraphParts.{NodesBelow};
 ghost use Rattle.borrow_analysis.specs.Visiting.{visitedOf, VisitsWritten};
 ghost use Rattle.ancestors.specs.Ancestors.{passedOver};
 ghost use Rattle.ancestors.specs.Chains.{parentAt, Chained};
-ghost use Rattle.ancestors.specs.Walking.{resting, Scanned, Going, PutOn, Stepped};
+ghost use Rattle.ancestors.specs.Walking.{resting, ScansOn, Going, PutOn, Stepped};
 use crate::chain::chain;
 use base::MAX_LOCALS;
 use base::MAX_TRIPLES;
@@ -81,17 +81,16 @@ fn passed_over(nodes: LiveVarState, used: LiveVarState, node: u8) -> bool
     used.has(node)
 }
 
-// The scan of a node for a parent that is not passed over, from triple `from` on, one of its own: where it stands then, and behind the last triple where there is none.
+// The scan for a parent that is not passed over, from triple `from` on and through those behind it in its chain: where it stands then, behind the last triple where there is none.
 fn next_parent(
     triples: &[u32],
     nodes: LiveVarState,
     used: LiveVarState,
     next: &[u16],
-    node: u8,
     from: usize,
 ) -> usize
-    requires { ⌜ NodesBelow maxLocals (now triples) × Chained (now triples) 0 (now next) × Scanned (now triples) (mask nodes) (mask used) node from ⌝ }
-    ensures { λ r. ⌜ Scanned (now (triples .entry)) (mask nodes) (mask used) node r × (r < length (now (triples .entry)) / 3 → passedOver (mask nodes) (mask used) (parentAt (now (triples .entry)) r) ≡ false) ⌝ }
+    requires { ⌜ NodesBelow maxLocals (now triples) × Chained (now triples) 0 (now next) ⌝ }
+    ensures { λ r. ⌜ ScansOn (now (triples .entry)) (mask nodes) (mask used) from r × (r < length (now (triples .entry)) / 3 → passedOver (mask nodes) (mask used) (parentAt (now (triples .entry)) r) ≡ false) ⌝ }
 {
     let n = triples.len() / 3;
     let mut i = from;
@@ -148,7 +147,7 @@ fn step(
     let node = path.last(list);
     let at = u8_to_usize(node);
     let from = u16_to_usize(kept[at]);
-    let i = next_parent(triples, visited.nodes, used, next, node, from);
+    let i = next_parent(triples, visited.nodes, used, next, from);
     let n = triples.len() / 3;
     if i >= n {
         return Walk {

@@ -20,15 +20,14 @@ slice-read-kept c =
     end-kept _ _ _ _ _ _ (c .before .before .before .before .before .before .before .before .before .before .before .pre .1) (c .before .before .before .before .before .before .before .before .before .before .before .pre .2) (c .before .before .last .ensures) own .0
 
 next-parent-requires : tie.Need-next-parent-requires
-next-parent-requires c κs =
-    let p = c .before .before .before .before .before .before .before .before .before .before .before .before .pre in
-    let own : c .before .before .u8-to-usize .result ≡ c .before .before .before .last .result = omega (arith, c .before .before .u8-to-usize .ensures .0) in
-    (inside-wider _ (p .1 .few) (p .1 .inside), p .0, subst (Scanned _ _ _ _) (sym (c .u16-to-usize .ensures .0)) (end-kept _ _ _ _ _ _ (p .1) (p .2) (c .before .before .before .last .ensures) own .1))
+next-parent-requires c κs = let p = c .before .before .before .before .before .before .before .before .before .before .before .before .pre in (inside-wider _ (p .1 .few) (p .1 .inside), p .0)
 
 returns : tie.Need-returns
 returns c =
     let p = c .before .before .before .before .before .before .before .before .before .before .before .before .before .before .before .pre in
-    stepped-off _ _ _ _ _ _ (p .1) (p .2) (c .before .before .before .before .before .before .last .ensures) (c .before .before .next-parent .ensures .0) (c .before .if1 .taken) refl (c .take-off .ensures)
+    let own : c .before .before .before .before .before .u8-to-usize .result ≡ c .before .before .before .before .before .before .last .result = omega (arith, c .before .before .before .before .before .u8-to-usize .ensures .0) in
+    let from = subst (Scanned _ _ _ _) (sym (c .before .before .before .u16-to-usize .ensures .0)) (end-kept _ _ _ _ _ _ (p .1) (p .2) (c .before .before .before .before .before .before .last .ensures) own .1) in
+    stepped-off _ _ _ _ _ _ (p .1) (p .2) (c .before .before .before .before .before .before .last .ensures) (c .before .before .next-parent .ensures .0 .each _ from) (c .before .if1 .taken) refl (c .take-off .ensures)
 
 shared-slice-read-next : tie.Need-shared-slice-read-kept
 shared-slice-read-next c = omega (arith, c .before .if1 .left, c .before .before .before .before .before .before .before .before .before .before .before .before .before .before .before .pre .0 .long)
@@ -58,7 +57,8 @@ returns-2 c =
     let low = c .before .before .before .before .before .before .before .before .before .if1 .left in
     let parent = c .before .before .before .before .before .before .before .parent-at .ensures .0 in
     let own : c .before .before .before .before .before .before .before .before .before .before .before .before .before .u8-to-usize .result ≡ c .before .before .before .before .before .before .before .before .before .before .before .before .before .before .last .result = omega (arith, c .before .before .before .before .before .before .before .before .before .before .before .before .before .u8-to-usize .ensures .0) in
-    stepped-on _ _ _ _ _ _ (p .1) (p .2) (c .before .before .before .before .before .before .before .before .before .before .before .before .before .before .last .ensures) own (scan .0) low (next-of _ (p .0) low) parent (ap (passedOver _ _) parent ∙ scan .1 low) (c .before .before .before .before .put .ensures)
+    let from = subst (Scanned _ _ _ _) (sym (c .before .before .before .before .before .before .before .before .before .before .before .u16-to-usize .ensures .0)) (end-kept _ _ _ _ _ _ (p .1) (p .2) (c .before .before .before .before .before .before .before .before .before .before .before .before .before .before .last .ensures) own .1) in
+    stepped-on _ _ _ _ _ _ (p .1) (p .2) (c .before .before .before .before .before .before .before .before .before .before .before .before .before .before .last .ensures) own (scan .0 .each _ from) low (next-of _ (p .0) low) parent (ap (passedOver _ _) parent ∙ scan .1 low) (c .before .before .before .before .put .ensures)
 
 pub step-spec : {M : Type 1} → statement M
 step-spec =

@@ -115,6 +115,15 @@ fn random_ones(run: &mut Run, count: usize, seed: u64) -> bool {
             pairs.push((Owned { nodes: 3, live, triples }, next));
         }
     }
+    // all graphs of four nodes without a triple from a node to itself, the first in which the order of the walk has a choice; then the longest paths, up and down
+    for edges in 0..4096u32 {
+        let step = |e: u32| [e / 3, (e / 3 + 1 + e % 3) % 4, 0];
+        let mut triples: Vec<[u32; 3]> = (0..12).filter(|e| edges >> e & 1 == 1).map(step).collect();
+        triples.sort();
+        pairs.push((Owned { nodes: 4, live: 1 << ((u64::from(edges) + seed) % 4), triples: triples.concat() }, Owned::default()));
+    }
+    pairs.push((Owned::new(64, &[63], &std::array::from_fn::<_, 63, _>(|p| [p as u32, p as u32 + 1, 0])), Owned::default()));
+    pairs.push((Owned::new(64, &[0], &std::array::from_fn::<_, 63, _>(|p| [p as u32 + 1, p as u32, 0])), Owned::default()));
     for _ in 0..count / 10 {
         pairs.push(random_graphs::pair(&mut rng, false));
         pairs.push(random_graphs::pair(&mut rng, true));
