@@ -50,10 +50,6 @@ parents-in (u ∷ us) t i =
 -- ---- one visit
 
 module _ (ts : List Triple) (used : ℕ) (st : VisitedNodes) (n : ℕ) where
-  pub collect-zero : (d : ℕ) → d ≡ 0 → st ≡ collectAncestors d ts used st n
-  unfolding collectAncestors
-  collect-zero d e = rw e
-
   pub collect-skip : (d : ℕ) → holds (st .mask) n || holds used n ≡ true → st ≡ collectAncestors d ts used st n
   unfolding collectAncestors
   collect-skip zero e = refl

@@ -8,7 +8,7 @@ use native.Mathlib.Numerals.{add-one}
 use native.Mathlib.Omega.{arith}
 use lib.Count.{ones, ones-le}
 use lib.ListN.{getD, length, take, drop, set, length-set, length-append, length-drop, take-append-drop}
-use lib.Pow.{pow-lt, pow-pos, pow-mono}
+use lib.Pow.{pow-lt, pow-pos}
 use lib.Seq.{take-suc-set, drop-set-lt, drop-append-le, drop-drop, take-at, drop-at, length-take-le}
 use Rattle.base.specs.Lists.{over}
 use Rattle.base.specs.TabLaws.{in-tab-by}
@@ -72,9 +72,6 @@ drop-further {i} {j} a b h e =
 
 pub visits-none : {c m k : ℕ} (out : List ℕ) → VisitedBelow c m k → c ≤ length out → VisitsSoFar c k out m k out
 visits-none {c} {m} {k} out w h = record { room = w; wide = h; more = omega arith; long = refl; rest = refl }
-
-pub visits-below : {c k₀ m k : ℕ} {old out : List ℕ} → VisitsSoFar c k₀ old m k out → VisitedBelow (length out) m k
-visits-below {c} {k₀} {m} {k} {old} {out} w = record { ones = w .room .ones; small = omega (arith, w .room .small, pow-mono {i = c} {j = length out} (omega (arith, w .wide, w .long))) }
 
 module _ (xs old : List ℕ) (k₀ used d n : ℕ) {c m k m′ k′ : ℕ} {out out′ : List ℕ} where
   pub visits-more : NodesBelow c xs → n < c → VisitsSoFar c k₀ old m k out → VisitsWritten (collectAncestors d (triplesOf xs) used (visitedOf m k out) n) m′ k′ out out′
