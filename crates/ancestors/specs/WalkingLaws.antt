@@ -28,6 +28,7 @@ use Rattle.borrow_analysis.specs.GraphParts.{NodesBelow}
 use Rattle.borrow_analysis.specs.Visiting.{visitedOf, VisitedBelow, VisitsWritten}
 use Rattle.borrow_analysis.specs.VisitLaws.{parents-below, parent-below, below-more, below-fits, below-listed, list-below, list-visited, drop-further, visits-none, visits-all, written-before}
 use Rattle.ancestors.specs.declared.Visited.{Visited}
+use Rattle.ancestors.specs.declared.Path.{Path}
 use Rattle.ancestors.specs.declared.Walk.{Walk}
 use Rattle.ancestors.specs.Chains.{parentAt, childAt, NextFrom, Firsts}
 use Rattle.ancestors.specs.Ancestors.{endOf, put, takeOff, passedOver, firstNew}
@@ -98,6 +99,14 @@ kept-set {xs} {kept} {m} {used} {x} {k} h v w = record {
       (λ g. subst (Scanned xs m used y) (sym (getD-set-other kept x y k 0 g)) (w .each y l));
 }
 
+-- other places are kept
+going-kept : {xs list kept kept₁ out : List ℕ} {used : ℕ} {w : Walk} → Going xs used w list kept out → Kept xs (mask (w .visited .nodes)) used kept₁ → Going xs used w list kept₁ out
+going-kept g scans = record { few = g .few; inside = g .inside; room = g .room; long = g .long; short = g .short; below = g .below; scans = scans }
+
+-- fewer nodes are on the list
+pub going-shorter : {xs list kept out : List ℕ} {used : ℕ} {w : Walk} {r : Path} → Going xs used w list kept out → r .len ≤ w .path .len → Going xs used (record { visited = w .visited; path = r }) list kept out
+going-shorter g h = record { few = g .few; inside = g .inside; room = g .room; long = g .long; short = omega (arith, h, g .short); below = λ i l. g .below i (omega (arith, h, l)); scans = g .scans }
+
 -- ---- a node is put
 
 -- there is room for one that is new
@@ -162,24 +171,16 @@ module _ (xs : List ℕ) (used : ℕ) (w : Walk) (list kept out : List ℕ) (goi
       let low : x < maxLocals = omega (arith, e, end-below) in
       (omega (arith, at, low, going .scans .long), subst (λ (j : ℕ). Scanned xs (mask (w .visited .nodes)) used x (getD kept j 0)) (sym at) (going .scans .each x low))
 
-  pub stepped-off : {w₁ : Walk} {x i : ℕ} → x ≡ getD list (w .path .len - 1) 0 → Scanned xs (mask (w .visited .nodes)) used x i → length xs / 3 ≤ i → w₁ .visited ≡ w .visited → w₁ .path .len ≡ w .path .len - 1
-      → Stepped xs used w list out w₁ list kept out
+  pub stepped-off : {r : Path} {x i : ℕ} → x ≡ getD list (w .path .len - 1) 0 → Scanned xs (mask (w .visited .nodes)) used x i → length xs / 3 ≤ i → r .len ≡ w .path .len - 1
+      → Stepped xs used w list out (record { visited = w .visited; path = r }) list kept out
   unfolding takeOff
-  stepped-off {w₁} {x} {i} e scan through same less = record {
-    going = record {
-      few = going .few;
-      inside = going .inside;
-      room = subst (λ (v : Visited). VisitedBelow (length out) (mask (v .nodes)) (v .count)) (sym same) (going .room);
-      long = going .long;
-      short = subst (λ (v : Visited). w₁ .path .len ≤ v .count) (sym same) (omega (arith, less, going .short));
-      below = λ i l. going .below i (omega (arith, l, less));
-      scans = subst (λ (v : Visited). Kept xs (mask (v .nodes)) used kept) (sym same) (going .scans);
-    };
-    state = ap₂ (λ (l : List ℕ) (v : Visited). record { path = l; visited = visitedOf (mask (v .nodes)) (v .count) out })
-        (ap (λ (k : ℕ). take k list) less ∙ sym (take-take (w .path .len - 1) (w .path .len) list (omega arith)) ∙ ap (λ (k : ℕ). take (k - 1) (take (w .path .len) list)) (sym list-long)) same
+  stepped-off {r} {x} {i} e scan through less = record {
+    going = going-shorter going (omega (arith, less));
+    state = ap (λ (l : List ℕ). record { path = l; visited = visitedOf (mask (w .visited .nodes)) (w .visited .count) out })
+        (ap (λ (k : ℕ). take k list) less ∙ sym (take-take (w .path .len - 1) (w .path .len) list (omega arith)) ∙ ap (λ (k : ℕ). take (k - 1) (take (w .path .len) list)) (sym list-long))
         ∙ sym (step-off (triplesOf xs) used (stateOf w list out) (ap (λ (y : ℕ). firstNew (mask (w .visited .nodes)) used (getParents (triplesOf xs) y)) (end-is ∙ sym e) ∙ scan-end xs _ used x through scan));
-    less = omega (arith, less, h, ap (λ (v : Visited). v .count) same);
-    more = omega (arith, ap (λ (v : Visited). v .count) same);
+    less = omega (arith, less, h);
+    more = le-refl _;
     same = refl;
     rest = refl;
   }
@@ -192,16 +193,8 @@ module _ (xs : List ℕ) (used : ℕ) (w : Walk) (list kept out : List ℕ) (goi
       let after = put-going xs used w w₁ list kept out list₁ out₁ p going small new on in
       let seen : passedOver (mask (w₁ .visited .nodes)) used (parentAt xs i) ≡ true = ap₂ (λ (a y : ℕ). passedOver a used y) (on .nodes) (sym is) ∙ ap (λ (b : Bool). b || holds used p) (holds-insert m p) in
       record {
-        going = record {
-          few = after .few;
-          inside = after .inside;
-          room = after .room;
-          long = after .long;
-          short = after .short;
-          below = after .below;
-          scans = subst (λ (j : ℕ). Kept xs (mask (w₁ .visited .nodes)) used (set kept j v)) (sym own)
-              (kept-set (omega (arith, e, end-below)) (scan-next (scanned-more (subst (Sub m) (sym (on .nodes)) (sub-union-l m (2 ^ p))) scan) low seen next) (after .scans));
-        };
+        going = going-kept after (subst (λ (j : ℕ). Kept xs (mask (w₁ .visited .nodes)) used (set kept j v)) (sym own)
+            (kept-set (omega (arith, e, end-below)) (scan-next (scanned-more (subst (Sub m) (sym (on .nodes)) (sub-union-l m (2 ^ p))) scan) low seen next) (after .scans)));
         state = put-state xs used w w₁ list kept out list₁ out₁ p going small new on
             ∙ sym (step-on (triplesOf xs) used (stateOf w list out) p
             (ap (λ (y : ℕ). firstNew m used (getParents (triplesOf xs) y)) (end-is ∙ sym e) ∙ scan-found xs m used x low scan (ap (passedOver m used) (sym is) ∙ new) ∙ ap (λ (y : ℕ). some y) (sym is)));
@@ -245,10 +238,6 @@ module _ (xs : List ℕ) (used : ℕ) (w₀ : Walk) (list₀ out₀ : List ℕ) 
 
     walk-end : w .path .len ≡ 0 → visitedOf (mask (w .visited .nodes)) (w .visited .count) out ≡ restFrom (triplesOf xs) used (length out₀) (stateOf w₀ list₀ out₀)
     walk-end e = sym (rest-none (triplesOf xs) used (length out₀) parents-in (stateOf w list out) (on-list ∙ e)) ∙ so .work
-
--- at rest again
-pub rests : {xs list kept out : List ℕ} {used : ℕ} {w : Walk} → Going xs used w list kept out → Going xs used (resting (w .visited)) list kept out
-rests g = record { few = g .few; inside = g .inside; room = g .room; long = g .long; short = omega arith; below = λ i h. absurd (omega arith); scans = g .scans }
 
 -- the whole walk from n, which was put first
 pub walk-whole : (xs : List ℕ) (used : ℕ) (seen : Visited) (list kept old : List ℕ) (n : ℕ) {w₀ w : Walk} {list₀ out₀ list₁ kept₁ out : List ℕ} → Going xs used (resting seen) list kept old → n < length old

@@ -5,7 +5,7 @@ ghost use Prim.Native.Nat.{_+_, _-_, _/_, _^_, _<_, _≤_};
 ghost use lib.ListN.{length, getD, set};
 ghost use Rattle.base.specs.Sizes.{maxLocals, maxTriples};
 ghost use Rattle.base.specs.Lists.{over};
-ghost use Rattle.dataflow_domains.specs.Mask.{holds, union};
+ghost use Rattle.dataflow_domains.specs.Mask.{union};
 ghost use Rattle.dataflow_domains.specs.Members.{members};
 ghost use Rattle.dataflow_domains.specs.Sets.{mask};
 ghost use Rattle.borrow_analysis.specs.Graph.{triplesOf};

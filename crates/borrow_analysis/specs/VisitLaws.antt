@@ -1,4 +1,4 @@
--- The visits in lent bytes: room for a node more, one visit, the loop over the triples, and the nodes to start from. Assumes nothing.
+-- The visits in lent bytes: room for a node more, one visit, what was written, and the nodes to start from. Assumes nothing.
 use mathlib.Core.Path.{_≡_, refl, sym, ap, ap₂, _∙_, subst}
 use mathlib.Core.Bool.{false}
 use mathlib.Core.List.{List, [], _∷_, _++_, append-assoc, List·Memᴰ}

@@ -8,7 +8,7 @@ use Rattle.dataflow_domains.specs.Sets.{mask}
 use Rattle.borrow_analysis.specs.AncestorLaws.{collect-skip}
 use Rattle.borrow_analysis.specs.VisitLaws.{written-same}
 use Rattle.ancestors.specs.Walking.{stepsLeft, WalkSoFar}
-use Rattle.ancestors.specs.WalkingLaws.{put-room, put-going, rests, walk-none, walk-step, walk-whole}
+use Rattle.ancestors.specs.WalkingLaws.{put-room, put-going, going-shorter, walk-none, walk-step, walk-whole}
 use Rattle.ancestors.proofs.collect_ancestors.Statement.{statement}
 use Rattle.ancestors.proofs.collect_ancestors.Tie as tie
 
@@ -54,7 +54,7 @@ returns-2 c =
     let p = c .before .before .before .before .before .before .before .before .before .before .before .before .before .before .before .before .before .before .pre in
     let so = c .before .before .before .loop .inv in
     let none : c .before .before .before .loop .walk .path .len ≡ 0 = omega (arith, c .before .if2 .left) in
-    (rests (so .going), walk-whole _ _ _ _ _ _ _ (p .1) (p .2) (sym (c .before .before .before .before .before .before .before .before .before .before .before .before .passed-over .ensures) ∙ c .before .before .before .before .before .before .before .before .before .before .before .if1 .left) (c .before .before .before .before .before .before .before .before .put .ensures) so none)
+    (going-shorter (so .going) (omega arith), walk-whole _ _ _ _ _ _ _ (p .1) (p .2) (sym (c .before .before .before .before .before .before .before .before .before .before .before .before .passed-over .ensures) ∙ c .before .before .before .before .before .before .before .before .before .before .before .if1 .left) (c .before .before .before .before .before .before .before .before .put .ensures) so none)
 
 pub collect-ancestors-spec : {M : Type 1} → statement M
 collect-ancestors-spec =

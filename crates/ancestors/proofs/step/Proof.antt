@@ -1,7 +1,7 @@
 -- `ancestors::step` meets its contract. Assumes nothing.
 use borrow.Author.Needs.{needs}
 use native.Mathlib.Omega.{arith}
-use mathlib.Core.Path.{_≡_, refl, sym, ap, _∙_, subst}
+use mathlib.Core.Path.{_≡_, sym, ap, _∙_, subst}
 use Rattle.borrow_analysis.specs.AcceptedLaws.{inside-wider}
 use Rattle.borrow_analysis.specs.VisitLaws.{parent-below}
 use Rattle.ancestors.specs.Ancestors.{passedOver}
@@ -27,7 +27,7 @@ returns c =
     let p = c .before .before .before .before .before .before .before .before .before .before .before .before .before .before .before .pre in
     let own : c .before .before .before .before .before .u8-to-usize .result ≡ c .before .before .before .before .before .before .last .result = omega (arith, c .before .before .before .before .before .u8-to-usize .ensures .0) in
     let from = subst (Scanned _ _ _ _) (sym (c .before .before .before .u16-to-usize .ensures .0)) (end-kept _ _ _ _ _ _ (p .1) (p .2) (c .before .before .before .before .before .before .last .ensures) own .1) in
-    stepped-off _ _ _ _ _ _ (p .1) (p .2) (c .before .before .before .before .before .before .last .ensures) (c .before .before .next-parent .ensures .0 .each _ from) (c .before .if1 .taken) refl (c .take-off .ensures)
+    stepped-off _ _ _ _ _ _ (p .1) (p .2) (c .before .before .before .before .before .before .last .ensures) (c .before .before .next-parent .ensures .0 .each _ from) (c .before .if1 .taken) (c .take-off .ensures)
 
 shared-slice-read-next : tie.Need-shared-slice-read-kept
 shared-slice-read-next c = omega (arith, c .before .if1 .left, c .before .before .before .before .before .before .before .before .before .before .before .before .before .before .before .pre .0 .long)
