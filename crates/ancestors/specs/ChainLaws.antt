@@ -10,6 +10,11 @@ use Rattle.base.specs.Sizes.{maxLocals}
 use Rattle.base.specs.ListLaws.{by-eq}
 use Rattle.ancestors.specs.Chains.{childAt, NextFrom, Chained, Firsts}
 
+-- what holds of the value at each place of a list holds of it after a store
+pub set-each : (P : ℕ → ℕ → Type 0) (l : List ℕ) (x v y : ℕ) → x < length l → P x v → ((y ≡ x → ⊥) → P y (getD l y 0)) → P y (getD (set l x v) y 0)
+set-each P l x v y h here other =
+    by-eq y x (λ e. subst (λ (z : ℕ). P z (getD (set l x v) z 0)) (sym e) (subst (P x) (sym (getD-set-same l x v 0 h)) here)) (λ g. subst (P y) (sym (getD-set-other l x y v 0 g)) (other g))
+
 module _ (xs : List ℕ) where
   -- behind the last triple
   pub chain-none : (next : List ℕ) {i : ℕ} → i ≡ length xs / 3 → length xs / 3 ≤ length next → Chained xs i next
@@ -26,19 +31,14 @@ module _ (xs : List ℕ) where
     chain-more : {next : List ℕ} → Chained xs (suc i) next → Chained xs i (set next i v)
     chain-more {next} w = record {
       long = subst (λ (n : ℕ). length xs / 3 ≤ n) (sym (length-set next i v)) (w .long);
-      each = λ t l m. by-eq t i
-          (λ e. subst (λ (j : ℕ). NextFrom xs (childAt xs j) (suc j) (getD (set next i v) j 0)) (sym e)
-          (subst (λ (c : ℕ). NextFrom xs c (suc i) (getD (set next i v) i 0)) child
-          (subst (NextFrom xs x (suc i)) (sym (getD-set-same next i v 0 (omega (arith, low, w .long)) ∙ after)) (firsts .each x small))))
-          (λ g. subst (NextFrom xs (childAt xs t) (suc t)) (sym (getD-set-other next i t v 0 g)) (w .each t (omega (arith, l, g)) m));
+      each = λ t l m. set-each (λ (j : ℕ). NextFrom xs (childAt xs j) (suc j)) next i v t (omega (arith, low, w .long))
+          (subst (λ (c : ℕ). NextFrom xs c (suc i) v) child (subst (NextFrom xs x (suc i)) (sym after) (firsts .each x small))) (λ g. w .each t (omega (arith, l, g)) m);
     }
 
     firsts-more : Firsts xs i (set first x i)
     firsts-more = record {
       long = length-set first x i ∙ firsts .long;
-      each = λ y h. by-eq y x
-          (λ e. subst (λ (z : ℕ). NextFrom xs z i (getD (set first x i) z 0)) (sym e) (subst (NextFrom xs x i) (sym (getD-set-same first x i 0 (omega (arith, small, firsts .long)))) here))
-          (λ g. subst (NextFrom xs y i) (sym (getD-set-other first x y i 0 g)) (farther y g (firsts .each y h)));
+      each = λ y h. set-each (λ (z : ℕ). NextFrom xs z i) first x i y (omega (arith, small, firsts .long)) here (λ g. farther y g (firsts .each y h));
     }
       where
         here : NextFrom xs x i i

@@ -1,9 +1,9 @@
 -- A step leaves what is still to be visited as it is, so that a walk lists what the visits of the definition do. Assumes nothing.
 use mathlib.Core.Path.{_≡_, refl, sym, ap, _∙_, subst}
 use mathlib.Core.Logic.{⊎-elim}
-use mathlib.Core.Bool.{Bool, true, false, cond, _||_}
+use mathlib.Core.Bool.{Bool, true, false, cond, _||_, or-true as any-or-true}
 use mathlib.Core.List.{List, [], _∷_, _++_, List·Memᴰ, List·Memᴰ·head, List·Memᴰ·tail}
-use mathlib.Core.Option.{Option, none, some}
+use mathlib.Core.Option.{Option, none, some, Option·some-injective}
 use Prim.Native.Nat.{ℕ, zero, suc, _+_, _-_, _*_, _^_, _≤_, _<_}
 use native.Mathlib.Omega.{arith}
 use borrow.Author.Tests.{eqb-true, eqb-false}
@@ -30,22 +30,18 @@ pub record FirstNew (m used : ℕ) (ps : List ℕ) (p : ℕ) : Type 0 where
   pub among : List·Memᴰ p ps
   pub new : passedOver m used p ≡ false
 
-some-is : {p q : ℕ} → some q ≡ some p → q ≡ p
-some-is e = cc
-
 pub first-new : (m used : ℕ) (ps : List ℕ) {p : ℕ} → firstNew m used ps ≡ some p → FirstNew m used ps p
 unfolding firstNew
 first-new m used [] {p} e = absurd (let z : _≡_ {A = ℕ} 0 1 = cc in omega arith)
 first-new m used (q ∷ qs) {p} e =
     by-test (λ b. cond b (firstNew m used qs) (some q) ≡ some p → FirstNew m used (q ∷ qs) p) (passedOver m used q)
     (λ t s. let r = first-new m used qs s in record { among = List·Memᴰ·tail (r .among); new = r .new })
-    (λ f s. record { among = List·Memᴰ·head (sym (some-is s)); new = ap (passedOver m used) (sym (some-is s)) ∙ f }) e
+    (λ f s. record { among = List·Memᴰ·head (sym (Option·some-injective _ _ s)); new = ap (passedOver m used) (sym (Option·some-injective _ _ s)) ∙ f }) e
 
 -- ---- passed over: listed, or in `used`
 
 or-right : (x y : Bool) → y ≡ true → x || y ≡ true
-or-right true y e = refl
-or-right false y e = e
+or-right x y e = ap (λ (b : Bool). x || b) e ∙ any-or-true x
 
 pub passed-more : {a b : ℕ} (used n : ℕ) → Sub a b → passedOver a used n ≡ true → passedOver b used n ≡ true
 passed-more {a} {b} used n s e =
@@ -160,7 +156,7 @@ module _ (ts : List Triple) (used c : ℕ) (inside : (t : Triple) → List·Mem�
       (λ t s. ap (λ (v : VisitedNodes). over visit v qs) (visit-passed st q t) ∙ visit-first st qs p h w s
       ∙ ap (λ (v : VisitedNodes). over visit v qs) (sym (visit-passed (visit st p) q (passed-more used q (collect-grows ts used c inside c st p h w .has) t))))
       (λ f s. ap (λ (v : VisitedNodes). over visit v qs)
-      (ap (visit st) (some-is s) ∙ sym (visit-passed (visit st p) q (ap (λ (x : ℕ). passedOver (visit st p .mask) used x) (some-is s) ∙ passed-after st p h w)))) e
+      (ap (visit st) (Option·some-injective _ _ s) ∙ sym (visit-passed (visit st p) q (ap (λ (x : ℕ). passedOver (visit st p .mask) used x) (Option·some-injective _ _ s) ∙ passed-after st p h w)))) e
 
   -- ---- a step leaves the rest as it is
 

@@ -11,7 +11,7 @@ use borrow.Author.Tests.{eq-eqb, ne-eqb}
 use lib.Count.{ones}
 use lib.ListN.{getD, length, take, drop, set, length-set}
 use lib.Pow.{pow-pos}
-use lib.Seq.{getD-set-same, getD-set-other, getD-take, take-take, take-suc-set, length-take-le, drop-set-lt}
+use lib.Seq.{getD-take, take-take, take-suc-set, length-take-le, drop-set-lt}
 use Rattle.base.specs.Sizes.{maxLocals}
 use Rattle.base.specs.Lists.{tab}
 use Rattle.base.specs.ListLaws.{by-eq, or-false}
@@ -33,6 +33,7 @@ use Rattle.ancestors.specs.declared.Walk.{Walk}
 use Rattle.ancestors.specs.Chains.{parentAt, childAt, NextFrom, Firsts}
 use Rattle.ancestors.specs.Ancestors.{endOf, put, takeOff, passedOver, firstNew}
 use Rattle.ancestors.specs.Walking.{StateBelow, stateOf, resting, restFrom, Scanned, ScansOn, Kept, Going, PutOn, Stepped, WalkSoFar}
+use Rattle.ancestors.specs.ChainLaws.{set-each}
 use Rattle.ancestors.specs.StepLaws.{passed-more, step-off, step-on, rest-step, rest-none, rest-put}
 
 -- ---- the scan
@@ -94,9 +95,7 @@ kept-more s w = record { long = w .long; each = λ x h. scanned-more s (w .each 
 kept-set : {xs kept : List ℕ} {m used x k : ℕ} → x < maxLocals → Scanned xs m used x k → Kept xs m used kept → Kept xs m used (set kept x k)
 kept-set {xs} {kept} {m} {used} {x} {k} h v w = record {
   long = length-set kept x k ∙ w .long;
-  each = λ y l. by-eq y x
-      (λ e. subst (λ (z : ℕ). Scanned xs m used z (getD (set kept x k) z 0)) (sym e) (subst (Scanned xs m used x) (sym (getD-set-same kept x k 0 (omega (arith, w .long)))) v))
-      (λ g. subst (Scanned xs m used y) (sym (getD-set-other kept x y k 0 g)) (w .each y l));
+  each = λ y l. set-each (Scanned xs m used) kept x k y (omega (arith, h, w .long)) v (λ g. w .each y l);
 }
 
 -- other places are kept
@@ -132,9 +131,8 @@ module _ (xs : List ℕ) (used : ℕ) (w w₁ : Walk) (list kept out list₁ out
     room = list-below out out₁ (going .room) low fresh (put-on .nodes) (put-on .count) (put-on .listed);
     long = ap length (put-on .path) ∙ length-set list (w .path .len) n ∙ going .long;
     short = omega (arith, put-on .len, put-on .count, going .short);
-    below = λ i h. by-eq i (w .path .len)
-        (λ e. let is : getD list₁ i 0 ≡ n = ap₂ (λ (l : List ℕ) (j : ℕ). getD l j 0) (put-on .path) e ∙ getD-set-same list (w .path .len) n 0 (room .1) in omega (arith, is, same-length, low))
-        (λ g. let is : getD list₁ i 0 ≡ getD list i 0 = ap (λ (l : List ℕ). getD l i 0) (put-on .path) ∙ getD-set-other list (w .path .len) i n 0 g in omega (arith, is, same-length, going .below i (omega (arith, h, put-on .len, g))));
+    below = λ i h. subst (λ (l : List ℕ). getD l i 0 < length out₁) (sym (put-on .path))
+        (set-each (λ (j p : ℕ). p < length out₁) list (w .path .len) n i (room .1) (omega (arith, same-length, low)) (λ g. omega (arith, same-length, going .below i (omega (arith, h, put-on .len, g)))));
     scans = subst (λ (m : ℕ). Kept xs m used kept) (sym (put-on .nodes)) (kept-more (sub-union-l _ _) (going .scans));
   }
 
@@ -154,13 +152,13 @@ module _ (xs : List ℕ) (used : ℕ) (w w₁ : Walk) (list kept out list₁ out
 pub list-fits : {xs list kept out : List ℕ} {used : ℕ} {w : Walk} → Going xs used w list kept out → w .path .len ≤ length list
 list-fits going = omega (arith, going .short, going .long, going .few, below-fits (going .room))
 
-module _ (xs : List ℕ) (used : ℕ) (w : Walk) (list kept out : List ℕ) (going : Going xs used w list kept out) (h : 0 < w .path .len) where
-  list-long : length (take (w .path .len) list) ≡ w .path .len
-  list-long = length-take-le (w .path .len) list (list-fits going)
+list-long : {xs list kept out : List ℕ} {used : ℕ} {w : Walk} → Going xs used w list kept out → length (take (w .path .len) list) ≡ w .path .len
+list-long {list = list} {w = w} going = length-take-le (w .path .len) list (list-fits going)
 
+module _ (xs : List ℕ) (used : ℕ) (w : Walk) (list kept out : List ℕ) (going : Going xs used w list kept out) (h : 0 < w .path .len) where
   end-is : endOf (stateOf w list out) ≡ getD list (w .path .len - 1) 0
   unfolding endOf
-  end-is = ap (λ (k : ℕ). getD (take (w .path .len) list) (k - 1) 0) list-long ∙ getD-take (w .path .len) list (w .path .len - 1) 0 (omega arith)
+  end-is = ap (λ (k : ℕ). getD (take (w .path .len) list) (k - 1) 0) (list-long going) ∙ getD-take (w .path .len) list (w .path .len - 1) 0 (omega arith)
 
   -- the end is a node, and the place of its scan is kept
   end-below : getD list (w .path .len - 1) 0 < maxLocals
@@ -177,7 +175,7 @@ module _ (xs : List ℕ) (used : ℕ) (w : Walk) (list kept out : List ℕ) (goi
   stepped-off {r} {x} {i} e scan through less = record {
     going = going-shorter going (omega (arith, less));
     state = ap (λ (l : List ℕ). record { path = l; visited = visitedOf (mask (w .visited .nodes)) (w .visited .count) out })
-        (ap (λ (k : ℕ). take k list) less ∙ sym (take-take (w .path .len - 1) (w .path .len) list (omega arith)) ∙ ap (λ (k : ℕ). take (k - 1) (take (w .path .len) list)) (sym list-long))
+        (ap (λ (k : ℕ). take k list) less ∙ sym (take-take (w .path .len - 1) (w .path .len) list (omega arith)) ∙ ap (λ (k : ℕ). take (k - 1) (take (w .path .len) list)) (sym (list-long going)))
         ∙ sym (step-off (triplesOf xs) used (stateOf w list out) (ap (λ (y : ℕ). firstNew (mask (w .visited .nodes)) used (getParents (triplesOf xs) y)) (end-is ∙ sym e) ∙ scan-end xs _ used x through scan));
     less = omega (arith, less, h);
     more = le-refl _;
@@ -214,13 +212,10 @@ module _ (xs : List ℕ) (used : ℕ) (w₀ : Walk) (list₀ out₀ : List ℕ) 
     parents-in : (t : Triple) → List·Memᴰ t (triplesOf xs) → t .parent < length out₀
     parents-in = parents-below (subst (λ (c : ℕ). NodesBelow c xs) (so .visits .long) (so .going .inside))
 
-    on-list : length (take (w .path .len) list) ≡ w .path .len
-    on-list = length-take-le (w .path .len) list (list-fits (so .going))
-
     below-now : StateBelow (length out₀) (stateOf w list out)
     below-now = record {
       fair = below-listed out (omega (arith, so .visits .long)) (so .visits .room);
-      short = omega (arith, so .going .short, on-list, length-take-le (w .visited .count) out (omega (arith, so .visits .long, below-fits (so .visits .room))));
+      short = omega (arith, so .going .short, list-long (so .going), length-take-le (w .visited .count) out (omega (arith, so .visits .long, below-fits (so .visits .room))));
     }
 
     pub walk-step : {w₁ : Walk} {list₁ kept₁ out₁ : List ℕ} → 0 < w .path .len → Stepped xs used w list out w₁ list₁ kept₁ out₁ → WalkSoFar xs used w₀ list₀ out₀ w₁ list₁ kept₁ out₁
@@ -233,11 +228,11 @@ module _ (xs : List ℕ) (used : ℕ) (w₀ : Walk) (list₀ out₀ : List ℕ) 
         long = s .same ∙ so .visits .long;
         rest = s .rest ∙ drop-further out out₀ (s .more) (so .visits .rest);
       };
-      work = ap (restFrom (triplesOf xs) used (length out₀)) (s .state) ∙ rest-step (triplesOf xs) used (length out₀) parents-in (stateOf w list out) below-now (omega (arith, h, on-list)) ∙ so .work;
+      work = ap (restFrom (triplesOf xs) used (length out₀)) (s .state) ∙ rest-step (triplesOf xs) used (length out₀) parents-in (stateOf w list out) below-now (omega (arith, h, list-long (so .going))) ∙ so .work;
     }
 
     walk-end : w .path .len ≡ 0 → visitedOf (mask (w .visited .nodes)) (w .visited .count) out ≡ restFrom (triplesOf xs) used (length out₀) (stateOf w₀ list₀ out₀)
-    walk-end e = sym (rest-none (triplesOf xs) used (length out₀) parents-in (stateOf w list out) (on-list ∙ e)) ∙ so .work
+    walk-end e = sym (rest-none (triplesOf xs) used (length out₀) parents-in (stateOf w list out) (list-long (so .going) ∙ e)) ∙ so .work
 
 -- the whole walk from n, which was put first
 pub walk-whole : (xs : List ℕ) (used : ℕ) (seen : Visited) (list kept old : List ℕ) (n : ℕ) {w₀ w : Walk} {list₀ out₀ list₁ kept₁ out : List ℕ} → Going xs used (resting seen) list kept old → n < length old
