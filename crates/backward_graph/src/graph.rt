@@ -13,7 +13,7 @@ use base::width::u16_to_usize;
 use stackless_control_flow_graph::keys::find_keys;
 use stackless_control_flow_graph::keys::spread_keys;
 
-// Where each key's part of the backward graph starts, with room for the counts; and three places for each key.
+// Where each key's part of the backward graph starts, with room for the counts; and two places for each key.
 pub const FIRST_EDGES: usize = MAX_INSTRUCTIONS + 5;
 
 pub const EDGES: usize = MAX_SLOTS;

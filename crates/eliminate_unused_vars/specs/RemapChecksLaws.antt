@@ -12,7 +12,7 @@ use Rattle.base.specs.Sizes.{maxLocals}
 use Rattle.base.specs.Lists.{all}
 use Rattle.base.specs.ListLaws.{by-test, and-true, or-not, in-map, getD-in}
 use Rattle.stackless_bytecode.specs.declared.Bytecode.{Bytecode}
-use Rattle.stackless_bytecode.specs.Kinds.{Call, nop, at, dstsOf, srcsOf, isFlagged, fallsThrough, branchDests, labelOf}
+use Rattle.stackless_bytecode.specs.Kinds.{Call, nop, at, dstsOf, srcsOf, isFlagged, stopOk, fallsThrough, branchDests, labelOf}
 use Rattle.stackless_bytecode.specs.Labels.{labelOffset}
 use Rattle.stackless_bytecode.specs.LookupLaws.{label-defined}
 use Rattle.sheet.specs.declared.Shape.{Shape}
@@ -129,6 +129,7 @@ new-body l stay code ok few body = record {
   unique = record { one = λ o o′ l h h′ i i′. body .unique .one o o′ l (old o h) (old o′ h′) (label o l i) (label o′ l i′) };
   sound = record {
     some = omega (arith, size, body .sound .some);
+    stops = λ k h. ap stopOk (is k) ∙ flow .stop (at code k) ∙ body .sound .stops k (old k h);
     named = λ k l h i. let d = body .sound .named k l (old k h) (subst (λ (xs : List ℕ). List·Memᴰ l xs) (ap branchDests (is k) ∙ flow .dests (at code k)) i) in
         label-defined (map (remap stay) code) (labelOffset code l) l (omega (arith, size, d .inside)) (subst (λ (xs : List ℕ). List·Memᴰ l xs) (sym (ap labelOf (is (labelOffset code l)) ∙ flow .label (at code (labelOffset code l)))) (d .label));
     closed = ap (λ (n : ℕ). fallsThrough (at (map (remap stay) code) (n - 1))) size ∙ ap fallsThrough (is (length code - 1)) ∙ flow .falls (at code (length code - 1)) ∙ body .sound .closed;

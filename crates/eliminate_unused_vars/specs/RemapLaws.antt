@@ -14,7 +14,7 @@ use Rattle.base.specs.ListLaws.{gather-in, by-test, getD-in, in-getD, copies-at
 use Rattle.base.specs.GrowLaws.{map-append}
 use Rattle.base.specs.PartLaws.{zeros-replicate, zeros-drop}
 use Rattle.stackless_bytecode.specs.declared.Bytecode.{Bytecode}
-use Rattle.stackless_bytecode.specs.Kinds.{Assign, Load, nop, dstsOf, srcsOf, isExit, isFlagged, isJump, isBranch, fallsThrough, branchDests, labelOf}
+use Rattle.stackless_bytecode.specs.Kinds.{Assign, Load, nop, dstsOf, srcsOf, isExit, isFlagged, stopOk, isBranch, fallsThrough, branchDests, labelOf}
 use Rattle.sheet.specs.Layout.{countOf, userLocalsOf, recordStart, recordAt, decode, instructionAt, codeOf, padded}
 use Rattle.sheet.specs.Checks.{checkSheet}
 use Rattle.sheet.specs.CheckLaws.{code-length}
@@ -28,8 +28,8 @@ use Rattle.eliminate_unused_vars.specs.StayingLaws.{mentioned-stays}
 
 -- where it goes
 pub keeps-flow : (stay : List ℕ) → KeepsFlow (remap stay)
-unfolding remap dstsOf srcsOf padded isExit isFlagged isJump isBranch fallsThrough branchDests labelOf
-keeps-flow stay = record { past = refl; dests = λ r. refl; falls = λ r. refl; label = λ r. refl; ends = λ r. refl }
+unfolding remap dstsOf srcsOf padded isExit isFlagged stopOk isBranch fallsThrough branchDests labelOf
+keeps-flow stay = record { past = refl; dests = λ r. refl; stop = λ r. refl; falls = λ r. refl; label = λ r. refl; ends = λ r. refl }
 
 pub same-hides : (stay : List ℕ) (r : Bytecode) → hidesLocal (remap stay r) ≡ hidesLocal r
 unfolding hidesLocal remap

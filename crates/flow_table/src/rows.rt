@@ -1,40 +1,32 @@
 // The rows of the flow table: six numbers for each block, by offset. Assumes nothing.
 ghost use mathlib.Core.Path.{_≡_};
-ghost use mathlib.Core.Bool.{cond};
 ghost use mathlib.Core.List.{_++_};
 ghost use Prim.Native.Nat.{ℕ, _+_, _*_, _≤_, _<_};
 ghost use lib.ListN.{length, getD, take, drop};
 ghost use Rattle.base.specs.Lists.{gather};
 ghost use Rattle.base.specs.Sizes.{rowNumbers, maxInstructions};
-ghost use Rattle.stackless_control_flow_graph.specs.Arrays.{offsetsOf, Near, BlockArrays, threeOf, withExit, rowFrom, rowIn, HasRecord};
+ghost use Rattle.stackless_control_flow_graph.specs.Arrays.{offsetsOf, Near, BlockArrays, nextKeysIn, rowFrom, rowIn, HasRecord};
 use base::ROW;
 use base::width::usize_to_u16;
 use sheet::reader;
 use stackless_control_flow_graph::Successors;
-use stackless_control_flow_graph::Three;
 use stackless_control_flow_graph::blocks::block_at;
 use stackless_control_flow_graph::keys::EXIT_KEY;
 use stackless_control_flow_graph::keys::successor_keys;
-use stackless_control_flow_graph::keys::three;
+use stackless_control_flow_graph::next::first_or;
+use stackless_control_flow_graph::next::second_or;
+use stackless_control_flow_graph::next::single;
 
-fn exit_key(exit: bool) -> u16
-    ensures { λ r. ⌜ r ≡ cond exit 1 0 ⌝ }
+// The successor keys of the block that ends at u: 1 at an exit, else those of its successors.
+fn next_keys(sheet: &[u8], goes: &[u16], u: usize, keys: &[u16]) -> Successors
+    requires { ⌜ HasRecord (now sheet) u × Near (length (now keys)) (now goes) u ⌝ }
+    ensures { λ r. ⌜ offsetsOf r ≡ nextKeysIn (now (sheet .entry)) (now (goes .entry)) (now (keys .entry)) u ⌝ }
 {
-    if exit { EXIT_KEY } else { 0 }
-}
-
-// The keys of the successors, then that of the exit, then 0.
-fn with_exit(e: Successors, exit: bool) -> Three
-    ensures { λ r. ⌜ threeOf r ≡ withExit (offsetsOf e) exit ⌝ }
-{
-    let last = exit_key(exit);
-    if e.count == 0 {
-        return three(last, 0, 0);
+    let r = reader::instruction_at(sheet, u);
+    if r.is_exit() {
+        return single(EXIT_KEY);
     }
-    if e.count == 1 {
-        return three(e.first, last, 0);
-    }
-    three(e.first, e.second, last)
+    successor_keys(goes, u, keys)
 }
 
 // The row of the block from l to u.
@@ -42,14 +34,13 @@ fn write_row(sheet: &[u8], goes: &[u16], l: usize, u: usize, keys: &[u16], out: 
     requires { ⌜ HasRecord (now sheet) u × (l < length (now keys)) × Near (length (now keys)) (now goes) u × (length (now keys) ≤ maxInstructions) × (length (now out) ≡ rowNumbers) ⌝ }
     ensures { λ _. ⌜ now (out .exit) ≡ rowFrom (now (sheet .entry)) (now (goes .entry)) (now (keys .entry)) l u ⌝ }
 {
-    let r = reader::instruction_at(sheet, u);
-    let e = with_exit(successor_keys(goes, u, keys), r.is_exit());
+    let e = next_keys(sheet, goes, u, keys);
     out[0] = usize_to_u16(l);
     out[1] = usize_to_u16(u);
     out[2] = keys[l];
-    out[3] = e.first;
-    out[4] = e.second;
-    out[5] = e.third;
+    out[3] = first_or(e, 0);
+    out[4] = second_or(e, 0);
+    out[5] = 0;
 }
 
 // The rows of all m blocks to the front of the table.

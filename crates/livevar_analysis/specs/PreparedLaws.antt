@@ -16,6 +16,7 @@ use Rattle.stackless_control_flow_graph.specs.BlockLaws.{lower-starts, lower-le
 use Rattle.stackless_control_flow_graph.specs.Arrays.{CheckedSheet}
 use Rattle.stackless_control_flow_graph.specs.CheckedSheetLaws.{checked-shaped, checked-sound, checked-size}
 use Rattle.stackless_control_flow_graph.specs.Graph.{GraphRoom, GraphTables}
+use Rattle.stackless_control_flow_graph.specs.Sorting.{maxSlots}
 use Rattle.livevar_analysis.specs.Analysis.{analyzeFunction, analyze, liveBytes}
 use Rattle.livevar_analysis.specs.Rules.{ruleSets, Ruled, RuleRoom}
 use Rattle.livevar_analysis.specs.Engine.{SolveInput, CanSolve, Solved}
@@ -46,7 +47,7 @@ node-words = (maxInstructions + 2) * setWords
 pub zeros-long : (n : ℕ) → length (replicate {A = ℕ} n 0) ≡ n
 zeros-long n = length-replicate {A = ℕ} n 0
 
-pub blank-graph : GraphRoom (replicate maxInstructions 0) (replicate maxInstructions 0) (replicate maxInstructions 0) (replicate (maxInstructions + 5) 0) (replicate (3 * (maxInstructions + 2)) 0)
+pub blank-graph : GraphRoom (replicate maxInstructions 0) (replicate maxInstructions 0) (replicate maxInstructions 0) (replicate (maxInstructions + 5) 0) (replicate maxSlots 0)
 blank-graph = record {
   lowers-long = omega (arith, zeros-long maxInstructions);
   uppers-long = omega (arith, zeros-long maxInstructions);
@@ -54,7 +55,7 @@ blank-graph = record {
   keys-blank = λ o. copies-at maxInstructions o 0;
   firsts-long = omega (arith, zeros-long (maxInstructions + 5));
   firsts-blank = λ v. copies-at (maxInstructions + 5) v 0;
-  edges-long = omega (arith, zeros-long (3 * (maxInstructions + 2)));
+  edges-long = omega (arith, zeros-long maxSlots);
 }
 
 -- the rules of the most instructions

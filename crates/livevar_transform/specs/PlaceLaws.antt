@@ -17,7 +17,7 @@ use Rattle.dataflow_domains.specs.HoldsLaws.{holds-true}
 use Rattle.stackless_bytecode.specs.declared.Bytecode.{Bytecode}
 use Rattle.base.specs.Sizes.{maxLocals}
 use Rattle.base.specs.Lists.{keep, count, total, joins}
-use Rattle.stackless_bytecode.specs.Kinds.{Branch, Label, nop, at, isExit, isFlagged, isJump, fallsThrough, branchDests, labelOf}
+use Rattle.stackless_bytecode.specs.Kinds.{Branch, Label, nop, at, isExit, isFlagged, stopOk, fallsThrough, branchDests, labelOf}
 use Rattle.stackless_bytecode.specs.Labels.{labelOffset}
 use Rattle.livevar_analysis.specs.Analysis.{LiveVarInfo}
 use Rattle.livevar_transform.specs.Rewrite.{aimed, into, destroyBlock, blockSize, infoAt, isMerged, isDropped, targetOf, lostRefs, isLosing, labelFor, attrFor, goesTo, standsFor, keptCode, blockOn, addedCode, transformCode}
@@ -149,8 +149,12 @@ module _ (code : List Bytecode) (info : List LiveVarInfo) (refs : ℕ) where
   stands-label k = by-stands (λ r. cond (eqb (r .kind) Label) (r .one ∷ []) [] ≡ cond (eqb (at code k .kind) Label) (at code k .one ∷ []) []) k (λ e. rw e) (λ e. refl) (λ e f. refl)
 
   pub stands-falls : (k : ℕ) → fallsThrough (standsFor code info refs k) ≡ fallsThrough (at code k)
-  unfolding fallsThrough isJump isFlagged isExit
+  unfolding fallsThrough isExit
   stands-falls k = by-stands (λ r. fallsThrough r ≡ fallsThrough (at code k)) k (λ e. refl) (λ e. refl) (λ e f. refl)
+
+  pub stands-stop : (k : ℕ) → stopOk (standsFor code info refs k) ≡ stopOk (at code k)
+  unfolding stopOk isFlagged
+  stands-stop k = by-stands (λ r. stopOk r ≡ stopOk (at code k)) k (λ e. refl) (λ e. refl) (λ e f. refl)
 
   -- ---- edges
 

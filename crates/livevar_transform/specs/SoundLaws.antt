@@ -10,7 +10,7 @@ use borrow.Author.Tests.{ltb-false}
 use lib.ListN.{getD, length}
 use Rattle.stackless_bytecode.specs.declared.Bytecode.{Bytecode}
 use Rattle.base.specs.Lists.{has}
-use Rattle.stackless_bytecode.specs.Kinds.{Branch, Jump, Label, nop, at, isFlagged, fallsThrough, branchDests, labelOf}
+use Rattle.stackless_bytecode.specs.Kinds.{Branch, Jump, Label, nop, at, isFlagged, stopOk, fallsThrough, branchDests, labelOf}
 use Rattle.stackless_bytecode.specs.Successors.{Unique}
 use Rattle.stackless_bytecode.specs.Labels.{labelOffset}
 use Rattle.livevar_analysis.specs.Analysis.{LiveVarInfo}
@@ -21,7 +21,7 @@ use Rattle.stackless_bytecode.specs.KindLaws.{branch-names, jump-falls, label-k
 use Rattle.stackless_bytecode.specs.LookupLaws.{label-defined, offset-is}
 use Rattle.stackless_bytecode.specs.Sound.{Defined, Sound}
 use Rattle.livevar_transform.specs.PieceLaws.{label-below, Part, head-names, destroy-names, last-names, block-head, size-is, size-some, pos, is-merged, is-gone, kept-by, gone-falls, pos-lt, head-marks, destroy-marks, last-marks}
-use Rattle.livevar_transform.specs.PlaceLaws.{startOf, Where, where-is, new-length, new-kept, new-added, added-part, pos-inside, added-inside, by-stands, stands-label, stands-falls, losing-some, some-losing, losing-branch, target-named}
+use Rattle.livevar_transform.specs.PlaceLaws.{startOf, Where, where-is, new-length, new-kept, new-added, added-part, pos-inside, added-inside, by-stands, stands-label, stands-stop, stands-falls, losing-some, some-losing, losing-branch, target-named}
 
 module _ (code : List Bytecode) (info : List LiveVarInfo) (refs : ℕ) where
   -- ---- Labels of the new code
@@ -181,10 +181,21 @@ module _ (code : List Bytecode) (info : List LiveVarInfo) (refs : ℕ) where
     pub new-sound : Sound (transformCode code info refs)
     new-sound = record {
       some = omega (arith, pos-inside code info refs (length code - 1) (omega (arith, sound .some)) last-kept);
+      stops = λ p h. stops p h (where-is code info refs p (omega (arith, new-length code info refs)));
       named = λ p l h m. named p l h m (where-is code info refs p (omega (arith, new-length code info refs)));
       closed = closed (length (transformCode code info refs) - 1) (omega (arith, pos-inside code info refs (length code - 1) (omega (arith, sound .some)) last-kept)) (where-is code info refs (length (transformCode code info refs) - 1) (omega (arith, new-length code info refs, pos-inside code info refs (length code - 1) (omega (arith, sound .some)) last-kept)));
     }
       where
+        -- a new block has no Stop
+        stop-part : (e j p : ℕ) → Part (attrFor code info refs e) (labelFor code info refs e) (targetOf code e) (lostRefs code info refs e) j (at (transformCode code info refs) p) → stopOk (at (transformCode code info refs) p) ≡ true
+        stop-part e j p (Part.head z q) = ap stopOk q ∙ unfold stopOk isFlagged in refl
+        stop-part e j p (Part.destroy i g z q) = ap stopOk q ∙ unfold stopOk isFlagged in refl
+        stop-part e j p (Part.last z q) = ap stopOk q ∙ unfold stopOk isFlagged in refl
+
+        stops : (p : ℕ) → p < length (transformCode code info refs) → Where code info refs p → stopOk (at (transformCode code info refs) p) ≡ true
+        stops p h (Where.kept i b e s) = ap stopOk (ap (at (transformCode code info refs)) s ∙ new-kept code info refs i b e) ∙ stands-stop code info refs i ∙ sound .stops i b
+        stops p h (Where.added e j b w s) = stop-part e j p (subst (λ (x : ℕ). Part (attrFor code info refs e) (labelFor code info refs e) (targetOf code e) (lostRefs code info refs e) j (at (transformCode code info refs) x)) (sym s) (added-part code info refs e j b w))
+
         by-name : (k l : ℕ) → k < length code → Names k l → Defined (transformCode code info refs) l
         by-name k l h (same i q) = old-defined l (target k l h i)
         by-name k l h (edge e s b q z) =

@@ -4,7 +4,8 @@ ghost use Prim.Native.Nat.{_*_, _≤_};
 ghost use lib.ListN.{length};
 ghost use Rattle.base.specs.Sizes.{rowNumbers};
 ghost use Rattle.listing.specs.Output.{Wrote};
-ghost use Rattle.pages.specs.Page.{boundsText, leadsText, blockLine, flowText};
+ghost use Rattle.pages.specs.Page.{blockLine, flowText};
+ghost use Rattle.pages.specs.Parts.{boundsText, leadsText};
 use base::ROW;
 use base::width::u16_to_u32;
 use listing::output::put_bytes;
@@ -28,8 +29,7 @@ fn put_leads(p: &[u16], out: &mut [u8], at: usize) -> usize
 {
     let a = put_bytes(b", leads to", out, at);
     let b = put_mark(b" ", u16_to_u32(p[3]), out, a);
-    let e = put_mark(b" ", u16_to_u32(p[4]), out, b);
-    put_mark(b" ", u16_to_u32(p[5]), out, e)
+    put_mark(b" ", u16_to_u32(p[4]), out, b)
 }
 
 // The line of a block's row.

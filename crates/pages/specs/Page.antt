@@ -24,16 +24,11 @@ use Rattle.pages.specs.Size.{pageBytes}
 
 -- ---- blocks
 
--- "0 to 3: key 4", of a block's six numbers
-unfoldable pub boundsText : List ℕ → List ℕ
-boundsText row = decimal (getD row 0 0) ++ said (ascii " to ") (getD row 1 0) ++ said (ascii ": key ") (getD row 2 0)
-
--- ", leads to 2 3": a 0 only fills up
-unfoldable pub leadsText : List ℕ → List ℕ
-leadsText row = ascii ", leads to" ++ marked (ascii " ") (getD row 3 0) ++ marked (ascii " ") (getD row 4 0) ++ marked (ascii " ") (getD row 5 0)
-
+-- "0 to 3: key 4, leads to 2 3", of a block's six numbers: a 0 only fills up
 unfoldable pub blockLine : List ℕ → List ℕ
-blockLine row = boundsText row ++ leadsText row ++ ascii "\n"
+blockLine row =
+    decimal (getD row 0 0) ++ said (ascii " to ") (getD row 1 0) ++ said (ascii ": key ") (getD row 2 0)
+    ++ ascii ", leads to" ++ marked (ascii " ") (getD row 3 0) ++ marked (ascii " ") (getD row 4 0) ++ ascii "\n"
 
 -- a line for each of m blocks of a flow table, and how many there are
 unfoldable pub flowText : ℕ → List ℕ → List ℕ

@@ -2,7 +2,7 @@
 use mathlib.Core.Path.{_≡_, refl, sym, ap, subst}
 use mathlib.Core.Bool.{Bool, true, cond}
 use mathlib.Core.Logic.{⊎-elim}
-use mathlib.Core.List.{List, [], _∷_, _++_, map, List·Memᴰ, List·Memᴰ·head, List·Memᴰ·tail, List·Memᴰ·append-cases}
+use mathlib.Core.List.{List, [], _∷_, _++_, map, List·Memᴰ, List·Memᴰ·head, List·Memᴰ·tail, List·Memᴰ·eq-of-singleton}
 use Prim.Native.Nat.{ℕ, suc, _+_, _*_, _≤_, _<_}
 use native.Mathlib.Omega.{arith}
 use lib.Dec.{eqb}
@@ -24,7 +24,7 @@ use Rattle.sheet.specs.Checks.{checkSheet}
 use Rattle.sheet.specs.CheckLaws.{code-sound}
 use Rattle.sheet_writer.specs.EncodeLaws.{Encodes}
 use Rattle.sheet_writer.specs.BodyLaws.{accepted-body}
-use Rattle.stackless_control_flow_graph.specs.Blocks.{lowers, blocksOf, upperOf, keyed, keyOf, succKeys, row, flowTable}
+use Rattle.stackless_control_flow_graph.specs.Blocks.{lowers, blocksOf, upperOf, keyed, keyOf, row, flowTable}
 use Rattle.stackless_control_flow_graph.specs.BlockLaws.{upper-lt}
 use Rattle.stackless_control_flow_graph.specs.FlowLaws.{in-lowers, keys-blocks}
 use Rattle.stackless_control_flow_graph.specs.CallLaws.{blocks-few}
@@ -38,7 +38,7 @@ use Rattle.listing.specs.NumberLaws.{decimal-short, hex-length}
 use Rattle.listing.specs.TextLaws.{taken-few, refused-short}
 use Rattle.pages.specs.Words.{marked}
 use Rattle.pages.specs.Code.{localsIn, codeText}
-use Rattle.pages.specs.Page.{boundsText, leadsText, blockLine, flowText, unnamedText, unnamedLabels, unnamedLine, setText, liveLine, liveText, rewrittenText, sections, pageBy, page}
+use Rattle.pages.specs.Page.{blockLine, flowText, unnamedText, unnamedLabels, unnamedLine, setText, liveLine, liveText, rewrittenText, sections, pageBy, page}
 use Rattle.pages.specs.Size.{numberDigits, payloadDigits, codeBytes, blockLineBytes, unnamedBytes, flowBytes, setTextBytes, liveLineBytes, liveTextBytes, pageBytes}
 use Rattle.pages.specs.LineSizeLaws.{number-most, said-most, cond-most, marked-most, joins-most, locals-most, code-most}
 
@@ -64,26 +64,20 @@ module _ (code : List Bytecode) (sound : Sound code) (few : length code ≤ maxI
   unfolding keyOf
   key-low o = omega (arith, place-most o (keyed code), keys-blocks code sound, blocks-few code)
 
-  exit-low : (b : Bool) (x : ℕ) → List·Memᴰ x (cond b (1 ∷ []) []) → x ≤ maxNumber
-  exit-low true x (List·Memᴰ·head e) = omega (arith, e)
-
-  none-low : (x : ℕ) → List·Memᴰ x (replicate 3 0) → x ≤ maxNumber
-  none-low x (List·Memᴰ·head e) = omega (arith, e)
-  none-low x (List·Memᴰ·tail (List·Memᴰ·head e)) = omega (arith, e)
-  none-low x (List·Memᴰ·tail (List·Memᴰ·tail (List·Memᴰ·head e))) = omega (arith, e)
-
-  succ-low : (u x : ℕ) → List·Memᴰ x (succKeys code (keyed code) u) → x ≤ maxNumber
-  unfolding succKeys
-  succ-low u x i =
-      ⊎-elim (λ a. ⊎-elim (λ k. let m = in-map (keyOf (keyed code)) (successors code u) x k in subst (λ (y : ℕ). y ≤ maxNumber) (sym (m .2)) (key-low (m .0))) (exit-low (isExit (at code u)) x) (List·Memᴰ·append-cases (map (keyOf (keyed code)) (successors code u)) a)) (none-low x)
-      (List·Memᴰ·append-cases (map (keyOf (keyed code)) (successors code u) ++ cond (isExit (at code u)) (1 ∷ []) []) (in-take 3 _ i))
+  succ-low : (u : ℕ) → Low (cond (isExit (at code u)) (1 ∷ []) (map (keyOf (keyed code)) (successors code u)))
+  succ-low u =
+      by-test (λ b. Low (cond b (1 ∷ []) (map (keyOf (keyed code)) (successors code u)))) (isExit (at code u))
+      (λ _. record { each = λ x i. omega (arith, List·Memᴰ·eq-of-singleton i) })
+      (λ _. record { each = λ x i. let m = in-map (keyOf (keyed code)) (successors code u) x i in omega (arith, m .2, key-low (m .0)) })
 
   row-low : (l x : ℕ) → l < length code → List·Memᴰ x (row code (keyed code) l) → x ≤ maxNumber
   unfolding row
   row-low l x h (List·Memᴰ·head e) = omega (arith, e)
   row-low l x h (List·Memᴰ·tail (List·Memᴰ·head e)) = omega (arith, e, upper-lt code l h)
   row-low l x h (List·Memᴰ·tail (List·Memᴰ·tail (List·Memᴰ·head e))) = omega (arith, e, key-low l)
-  row-low l x h (List·Memᴰ·tail (List·Memᴰ·tail (List·Memᴰ·tail i))) = succ-low (upperOf code l) x i
+  row-low l x h (List·Memᴰ·tail (List·Memᴰ·tail (List·Memᴰ·tail (List·Memᴰ·head e)))) = omega (arith, e, low-at _ (succ-low (upperOf code l)) 0)
+  row-low l x h (List·Memᴰ·tail (List·Memᴰ·tail (List·Memᴰ·tail (List·Memᴰ·tail (List·Memᴰ·head e))))) = omega (arith, e, low-at _ (succ-low (upperOf code l)) 1)
+  row-low l x h (List·Memᴰ·tail (List·Memᴰ·tail (List·Memᴰ·tail (List·Memᴰ·tail (List·Memᴰ·tail (List·Memᴰ·head e)))))) = omega (arith, e)
 
   table-low : Low (flowTable code)
   unfolding flowTable
@@ -92,24 +86,23 @@ module _ (code : List Bytecode) (sound : Sound code) (few : length code ≤ maxI
 -- ---- blocks
 
 block-most : (r : List ℕ) → Low r → length (blockLine r) ≤ blockLineBytes
-unfolding blockLine boundsText leadsText
+unfolding blockLine
 block-most r low =
     let digits : (i : ℕ) → length (decimal (getD r i 0)) ≤ numberDigits = λ i. number-most (getD r i 0) (low-at r low i) in
+    let bounds : List ℕ = decimal (getD r 0 0) ++ said (ascii " to ") (getD r 1 0) ++ said (ascii ": key ") (getD r 2 0) in
     omega (
       arith,
-      length-append (boundsText r ++ leadsText r) (ascii "\n"),
-      length-append (boundsText r) (leadsText r),
+      length-append (bounds ++ ascii ", leads to" ++ marked (ascii " ") (getD r 3 0) ++ marked (ascii " ") (getD r 4 0)) (ascii "\n"),
+      length-append (bounds ++ ascii ", leads to" ++ marked (ascii " ") (getD r 3 0)) (marked (ascii " ") (getD r 4 0)),
+      length-append (bounds ++ ascii ", leads to") (marked (ascii " ") (getD r 3 0)),
+      length-append bounds (ascii ", leads to"),
       length-append (decimal (getD r 0 0) ++ said (ascii " to ") (getD r 1 0)) (said (ascii ": key ") (getD r 2 0)),
       length-append (decimal (getD r 0 0)) (said (ascii " to ") (getD r 1 0)),
       digits 0,
       said-most (ascii " to ") (getD r 1 0) numberDigits (digits 1),
       said-most (ascii ": key ") (getD r 2 0) numberDigits (digits 2),
-      length-append (ascii ", leads to" ++ marked (ascii " ") (getD r 3 0) ++ marked (ascii " ") (getD r 4 0)) (marked (ascii " ") (getD r 5 0)),
-      length-append (ascii ", leads to" ++ marked (ascii " ") (getD r 3 0)) (marked (ascii " ") (getD r 4 0)),
-      length-append (ascii ", leads to") (marked (ascii " ") (getD r 3 0)),
       marked-most (ascii " ") (getD r 3 0) numberDigits (digits 3),
       marked-most (ascii " ") (getD r 4 0) numberDigits (digits 4),
-      marked-most (ascii " ") (getD r 5 0) numberDigits (digits 5),
     )
 
 -- with the bytes that are left for the Labels that nobody names

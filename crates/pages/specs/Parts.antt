@@ -3,6 +3,7 @@ use Prim.Native.Nat.{ℕ, _-_, _*_}
 use mathlib.Core.Bool.{Bool, cond, _&&_}
 use mathlib.Core.List.{List, [], _∷_, _++_}
 use lib.Dec.{eqb}
+use lib.ListN.{getD}
 use Rattle.base.specs.Sizes.{rowNumbers}
 use Rattle.base.specs.Bytes.{part}
 use Rattle.base.specs.Lists.{joins}
@@ -12,7 +13,7 @@ use Rattle.sheet.specs.Layout.{codeOf}
 use Rattle.livevar_analysis.specs.Analysis.{LiveVarInfo}
 use Rattle.livevar_transform.specs.Rewrite.{infoAt}
 use Rattle.listing.specs.Words.{ascii, decimal, said}
-use Rattle.pages.specs.Words.{listed}
+use Rattle.pages.specs.Words.{marked, listed}
 use Rattle.pages.specs.Code.{codeLine}
 use Rattle.pages.specs.Page.{blockLine, liveLine}
 
@@ -38,6 +39,14 @@ localShown b x = cond b (said (ascii " t") x) []
 -- those below i
 unfoldable pub localsBelow : ℕ → ℕ → List ℕ
 localsBelow i m = listed (ascii " t") [] (members i m)
+
+-- ---- a block's line, in two parts
+
+unfoldable pub boundsText : List ℕ → List ℕ
+boundsText row = decimal (getD row 0 0) ++ said (ascii " to ") (getD row 1 0) ++ said (ascii ": key ") (getD row 2 0)
+
+unfoldable pub leadsText : List ℕ → List ℕ
+leadsText row = ascii ", leads to" ++ marked (ascii " ") (getD row 3 0) ++ marked (ascii " ") (getD row 4 0)
 
 -- ---- the first lines of a section
 

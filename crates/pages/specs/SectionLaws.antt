@@ -26,8 +26,8 @@ use Rattle.listing.specs.Words.{ascii, hex, decimal, said}
 use Rattle.listing.specs.TextLaws.{infos-length}
 use Rattle.pages.specs.Words.{marked}
 use Rattle.pages.specs.Code.{localsIn}
-use Rattle.pages.specs.Page.{boundsText, leadsText, blockLine, flowText, setText, liveLine, liveText}
-use Rattle.pages.specs.Parts.{blockLines, liveLines, beforeText}
+use Rattle.pages.specs.Page.{blockLine, flowText, setText, liveLine, liveText}
+use Rattle.pages.specs.Parts.{boundsText, leadsText, blockLines, liveLines, beforeText}
 
 -- ---- blocks
 
@@ -35,13 +35,18 @@ pub bounds-is : (r : List ℕ) → decimal (getD r 0 0) ++ said (ascii " to ") (
 unfolding boundsText
 bounds-is r = refl
 
-pub leads-is : (r : List ℕ) → ascii ", leads to" ++ marked (ascii " ") (getD r 3 0) ++ marked (ascii " ") (getD r 4 0) ++ marked (ascii " ") (getD r 5 0) ≡ leadsText r
+pub leads-is : (r : List ℕ) → ascii ", leads to" ++ marked (ascii " ") (getD r 3 0) ++ marked (ascii " ") (getD r 4 0) ≡ leadsText r
 unfolding leadsText
 leads-is r = refl
 
 pub block-is : (r : List ℕ) → boundsText r ++ leadsText r ++ ascii "\n" ≡ blockLine r
-unfolding blockLine
-block-is r = refl
+unfolding blockLine boundsText leadsText
+block-is r =
+    let b = boundsText r in
+    let word = ascii ", leads to" in
+    let one = marked (ascii " ") (getD r 3 0) in
+    let two = marked (ascii " ") (getD r 4 0) in
+    ap (λ (xs : List ℕ). xs ++ ascii "\n") (sym (append-assoc b (word ++ one) two) ∙ ap (λ (xs : List ℕ). xs ++ two) (sym (append-assoc b word one)))
 
 pub blocks-none : (t : List ℕ) → [] ≡ blockLines t 0
 unfolding blockLines joins

@@ -30,6 +30,7 @@ accepted-valid s e = record {
   refs = heading .refs;
   size = heading .size;
   count = n;
+  stops = λ k h. sound .stops k (omega (arith, n));
   listed = λ k x h i. local-lt (localsOf s) (at (codeOf s) k) (ok k h) x i;
   abort = λ k h f. abort k h f;
   inside = λ k l h i. omega (arith, n, sound .named k l (omega (arith, n)) i .inside);

@@ -1,4 +1,4 @@
--- Checks 5 to 8 of a sheet that is in shape, and the answers of checks 6 to 8. Assumes nothing.
+-- Checks 18 and 5 to 8 of a sheet that is in shape, and the answers of checks 6 to 8. Assumes nothing.
 use mathlib.Core.Path.{_≡_, sym, ap, _∙_, subst}
 use mathlib.Core.Bool.{Bool, true, false, not}
 use mathlib.Core.List.{List}
@@ -14,7 +14,7 @@ use Rattle.base.specs.declared.Refusal.the-variants.{LabelRepeated, LabelUndefi
 use Rattle.base.specs.Refusals.{Accepted, Refused, check, _then_}
 use Rattle.base.specs.RefusalLaws.{never, then-goes, then-stops, accepted-none, refused-at, found-at, found-none}
 use Rattle.stackless_bytecode.specs.declared.Bytecode.{Bytecode}
-use Rattle.stackless_bytecode.specs.Kinds.{at, fallsThrough}
+use Rattle.stackless_bytecode.specs.Kinds.{at, stopOk, fallsThrough}
 use Rattle.sheet_checks.specs.declared.labels.Labels.{Labels}
 use Rattle.sheet_checks.specs.declared.labels.Labels.the-variants.{Count, Repeated}
 use Rattle.sheet.specs.Layout.{localsOf, codeOf}
@@ -22,17 +22,19 @@ use Rattle.sheet.specs.Checks.{localsOk, fresh, namesOk, checkCode}
 use Rattle.sheet_checks.specs.Labelled.{LabelsOf, LabelLists, Named, Labelled, repeated}
 use Rattle.sheet.specs.Shaped.{Shaped, code-size}
 
--- ---- checks 5 to 8
+-- ---- checks 18 and 5 to 8
 
 -- by the count n of a sheet in shape
 pub code-is : (s : List ℕ) (n : ℕ) → Shaped s n → checkCode (localsOf s) (codeOf s)
-    ≡ (check 5 (firstBad n 0 (λ k. localsOk (localsOf s) (at (codeOf s) k)))
+    ≡ (check 18 (firstBad n 0 (λ k. stopOk (at (codeOf s) k)))
+    then check 5 (firstBad n 0 (λ k. localsOk (localsOf s) (at (codeOf s) k)))
     then check 6 (firstBad n 0 (fresh (codeOf s)))
     then check 7 (firstBad n 0 (λ k. namesOk (codeOf s) (at (codeOf s) k)))
     then check 8 (firstBad 1 (n - 1) (λ k. not (fallsThrough (at (codeOf s) k)))))
 unfolding checkCode
 code-is s n h =
-    ap (λ (m : ℕ). check 5 (firstBad m 0 (λ k. localsOk (localsOf s) (at (codeOf s) k)))
+    ap (λ (m : ℕ). check 18 (firstBad m 0 (λ k. stopOk (at (codeOf s) k)))
+    then check 5 (firstBad m 0 (λ k. localsOk (localsOf s) (at (codeOf s) k)))
     then check 6 (firstBad m 0 (fresh (codeOf s)))
     then check 7 (firstBad m 0 (λ k. namesOk (codeOf s) (at (codeOf s) k)))
     then check 8 (firstBad 1 (m - 1) (λ k. not (fallsThrough (at (codeOf s) k))))) (code-size h)

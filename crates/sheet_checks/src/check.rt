@@ -1,4 +1,4 @@
-// Checks 1 to 8, one after the other, each over the whole sheet before the next. Assumes nothing.
+// Checks 1 to 4, 18 and 5 to 8, one after the other, each over the whole sheet before the next. Assumes nothing.
 ghost use mathlib.Core.Path.{_≡_};
 ghost use mathlib.Core.Bool.{not};
 ghost use Prim.Native.Nat.{_-_, _*_, _≤_};
@@ -6,7 +6,7 @@ ghost use lib.ListN.{length};
 ghost use Rattle.base.specs.Sizes.{maxInstructions};
 ghost use Rattle.base.specs.Lists.{firstBad};
 ghost use Rattle.base.specs.Refusals.{Accepted, check, verdictOf};
-ghost use Rattle.stackless_bytecode.specs.Kinds.{at, fallsThrough};
+ghost use Rattle.stackless_bytecode.specs.Kinds.{at, stopOk, fallsThrough};
 ghost use Rattle.stackless_bytecode.specs.Slots.{Resolved};
 ghost use Rattle.sheet.specs.Layout.{localsOf, codeOf};
 ghost use Rattle.sheet.specs.Checks.{localsOk, checkCode, checkSheet};
@@ -24,6 +24,17 @@ use base::Refusal;
 use base::SLOTS;
 use sheet::reader::u16_at;
 use sheet_form::form::check_form;
+use sheet_stops::first_bad_stop;
+
+fn check_stops(s: &[u8], n: usize) -> Checked
+    requires { ⌜ Shaped (now s) n ⌝ }
+    ensures { λ r. ⌜ verdictOf r ≡ check 18 (firstBad n 0 (λ k. stopOk (at (codeOf (now (s .entry))) k))) ⌝ }
+{
+    match first_bad_stop(s, n) {
+        Found::At(k) => Checked::Refused(Refusal::FlaggedStop(k as u16)),
+        Found::Nothing => Checked::Accepted,
+    }
+}
 
 fn check_locals(s: &[u8], n: usize) -> Checked
     requires { ⌜ Shaped (now s) n ⌝ }
@@ -76,11 +87,15 @@ fn check_end(s: &[u8], n: usize) -> Checked
     Checked::Accepted
 }
 
-// Checks 5 to 8.
+// Checks 18 and 5 to 8.
 fn check_code(s: &[u8], n: usize, targets: &mut [u16]) -> Checked
     requires { ⌜ Shaped (now s) n × (2 * n ≤ length (now targets)) ⌝ }
     ensures { λ r. ⌜ (verdictOf r ≡ checkCode (localsOf (now (s .entry))) (codeOf (now (s .entry)))) × (verdictOf r ≡ Accepted → Resolved (codeOf (now (s .entry))) (now (targets .exit))) ⌝ }
 {
+    let stops = check_stops(s, n);
+    let Checked::Accepted = stops else {
+        return stops;
+    };
     let five = check_locals(s, n);
     let Checked::Accepted = five else {
         return five;

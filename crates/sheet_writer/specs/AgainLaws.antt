@@ -1,4 +1,4 @@
--- A sheet with a heading that keeps to its layout, and any code, is accepted where the code meets checks 4 to 8. Assumes nothing.
+-- A sheet with a heading that keeps to its layout, and any code, is accepted where the code meets checks 4, 18 and 5 to 8. Assumes nothing.
 use mathlib.Core.Path.{_≡_, refl, sym, ap, ap₂, _∙_, subst}
 use mathlib.Core.Bool.{Bool, true, false, cond, _||_, _&&_}
 use mathlib.Core.List.{List}

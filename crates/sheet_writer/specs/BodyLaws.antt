@@ -1,4 +1,4 @@
--- What checks 4 to 8 want of code, and that the code of an accepted sheet has it. Assumes nothing.
+-- What checks 4, 18 and 5 to 8 want of code, and that the code of an accepted sheet has it. Assumes nothing.
 use mathlib.Core.Path.{_≡_, refl, sym, ap, _∙_, subst}
 use mathlib.Core.Bool.{true, not}
 use mathlib.Core.List.{List}
@@ -12,7 +12,7 @@ use Rattle.base.specs.Sizes.{maxInstructions, recordBytes, listPlaces}
 use Rattle.base.specs.Refusals.{Verdict, Accepted, _then_}
 use Rattle.base.specs.RefusalLaws.{then-goes, accepted-none, passed}
 use Rattle.sheet.specs.Layout.{countOf, localsOf, recordStart, decode, codeOf, instructionAt, recordAt}
-use Rattle.stackless_bytecode.specs.Kinds.{at, fallsThrough, branchDests}
+use Rattle.stackless_bytecode.specs.Kinds.{at, stopOk, fallsThrough, branchDests}
 use Rattle.stackless_bytecode.specs.Labels.{lookup, isDefined}
 use Rattle.stackless_bytecode.specs.LookupLaws.{named-at}
 use Rattle.stackless_bytecode.specs.Successors.{Unique}
@@ -32,7 +32,7 @@ use Rattle.base.specs.Bytes.{Bytes}
 pub both-accept : {v w : Verdict} → Accepted ≡ v → w ≡ Accepted → (v then w) ≡ Accepted
 both-accept {w = w} e f = then-goes w (sym e) ∙ f
 
--- ---- what checks 4 to 8 want of code
+-- ---- what checks 4, 18 and 5 to 8 want of code
 
 pub record Body (l : ℕ) (code : List Bytecode) : Type 0 where
   pub some : 1 ≤ length code
@@ -48,14 +48,15 @@ unfolding namesOk
 names-ok code sound k h =
     all-by (λ l. isDefined (lookup code l)) (branchDests (at code k)) (λ l i. ap isDefined (named-at code k l h i (sound .named k l h i)))
 
--- checks 5 to 8 accept it
+-- checks 18 and 5 to 8 accept it
 pub code-accepted : (l : ℕ) (code : List Bytecode) → Body l code → checkCode l code ≡ Accepted
 unfolding checkCode
 code-accepted l code b =
-    both-accept (accepted-none 5 (all-none (length code) 0 (λ k. localsOk l (at code k)) (λ j i h. b .locals j (omega arith))))
+    both-accept (accepted-none 18 (all-none (length code) 0 (λ k. stopOk (at code k)) (λ j i h. b .sound .stops j (omega arith))))
+    (both-accept (accepted-none 5 (all-none (length code) 0 (λ k. localsOk l (at code k)) (λ j i h. b .locals j (omega arith))))
     (both-accept (accepted-none 6 (all-none (length code) 0 (fresh code) (λ j l h. unique-fresh code (b .unique) j (omega arith))))
     (both-accept (accepted-none 7 (all-none (length code) 0 (λ k. namesOk code (at code k)) (λ j l h. names-ok code (b .sound) j (omega arith))))
-    (sym (accepted-none 8 (all-none 1 (length code - 1) (λ k. not (fallsThrough (at code k))) (λ j l h. let s : j ≡ length code - 1 = omega arith in ap not (ap (λ (x : ℕ). fallsThrough (at code x)) s ∙ b .sound .closed)))))))
+    (sym (accepted-none 8 (all-none 1 (length code - 1) (λ k. not (fallsThrough (at code k))) (λ j l h. let s : j ≡ length code - 1 = omega arith in ap not (ap (λ (x : ℕ). fallsThrough (at code x)) s ∙ b .sound .closed))))))))
 
 -- ---- the code of an accepted sheet
 

@@ -8,7 +8,7 @@ use lib.ListN.{getD, length, length-map, List·getD-map}
 use Rattle.base.specs.Lists.{keep, gather, any, has, firsts, firstBad}
 use Rattle.base.specs.SearchLaws.{bad-same}
 use Rattle.stackless_bytecode.specs.declared.Bytecode.{Bytecode}
-use Rattle.stackless_bytecode.specs.Kinds.{nop, at, isBranch, fallsThrough, branchDests, labelOf}
+use Rattle.stackless_bytecode.specs.Kinds.{nop, at, isBranch, stopOk, fallsThrough, branchDests, labelOf}
 use Rattle.stackless_bytecode.specs.declared.Lookup.{Lookup}
 use Rattle.stackless_bytecode.specs.declared.Lookup.the-variants.{Named, Unnamed, Undefined}
 use Rattle.stackless_bytecode.specs.Labels.{lookup, offsetOf, isNamed, labelOffset}
@@ -20,6 +20,7 @@ use Rattle.stackless_control_flow_graph.specs.Backward.{nextsOf}
 pub record KeepsFlow (f : Bytecode → Bytecode) : Type 0 where
   pub past : f nop ≡ nop
   pub dests : (r : Bytecode) → branchDests (f r) ≡ branchDests r
+  pub stop : (r : Bytecode) → stopOk (f r) ≡ stopOk r
   pub falls : (r : Bytecode) → fallsThrough (f r) ≡ fallsThrough r
   pub label : (r : Bytecode) → labelOf (f r) ≡ labelOf r
   pub ends : (r : Bytecode) → isBranch (f r) ≡ isBranch r

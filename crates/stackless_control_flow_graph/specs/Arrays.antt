@@ -10,16 +10,16 @@
 --   lowerOfKey    key, less 2                         the lower of its block
 --   upperOfKey    key, less 2                         the upper of its block (Graph)
 --   keyOfOffset   offset                              the key of its block (Graph)
---   slots         key, three places each              the keys that may follow it (Sorting)
+--   slots         key, two places each                the keys of its successors (Sorting)
 --   firstEdge     key                                 where its part of edges starts; the next key's start ends it (Sorting)
 --   edges         firstEdge                           what the key leads to backward (Sorting)
 --   table         block by offset, six places each    its row of the flow table
 use mathlib.Core.Path.{_≡_}
-use mathlib.Core.Bool.{Bool, true, cond}
+use mathlib.Core.Bool.{true, cond}
 use mathlib.Core.List.{List, [], _∷_, _++_, map, List·Memᴰ}
 use Prim.Native.Nat.{ℕ, suc, _+_, _*_, _≤_, _<_}
 use lib.Dec.{eqb}
-use lib.ListN.{getD, set, length, take, replicate}
+use lib.ListN.{getD, set, length, take}
 use Rattle.base.specs.Sizes.{maxInstructions, recordBytes}
 use Rattle.base.specs.Lists.{keep, over}
 use Rattle.base.specs.Numbering.{numberIn}
@@ -30,7 +30,6 @@ use Rattle.stackless_bytecode.specs.Successors.{ascending, successors}
 use Rattle.stackless_bytecode.specs.Slots.{Resolved}
 use Rattle.sheet.specs.Layout.{countOf, recordStart, instructionAt, codeOf}
 use Rattle.sheet.specs.Checks.{checkSheet}
-use Rattle.stackless_control_flow_graph.specs.declared.Three.{Three}
 use Rattle.stackless_control_flow_graph.specs.declared.Successors.{Successors}
 use Rattle.stackless_control_flow_graph.specs.Blocks.{starts, lowers, blocksOf, upperOf, keyed}
 
@@ -148,17 +147,13 @@ pub record Numbered (code : List Bytecode) (keys lowerOfKey : List ℕ) (r : ℕ
 
 -- ---- rows
 
--- three keys by value
-abbrev pub threeOf : Three → List ℕ
-threeOf t = t .first ∷ t .second ∷ t .third ∷ []
-
--- the keys of successors, 1 last at an exit, 0 filling up
-unfoldable pub withExit : List ℕ → Bool → List ℕ
-withExit ks exit = take 3 (ks ++ cond exit (1 ∷ []) [] ++ replicate 3 0)
+-- the successor keys of the block that ends at u: 1 at an exit, else those of its successors
+unfoldable pub nextKeysIn : List ℕ → List ℕ → List ℕ → ℕ → List ℕ
+nextKeysIn s goes key u = cond (isExit (instructionAt s u)) (1 ∷ []) (succKeysIn key goes u)
 
 -- the six numbers of the block from l to u
 unfoldable pub rowFrom : List ℕ → List ℕ → List ℕ → ℕ → ℕ → List ℕ
-rowFrom s goes key l u = l ∷ u ∷ getD key l 0 ∷ withExit (succKeysIn key goes u) (isExit (instructionAt s u))
+rowFrom s goes key l u = let next = nextKeysIn s goes key u in l ∷ u ∷ getD key l 0 ∷ getD next 0 0 ∷ getD next 1 0 ∷ 0 ∷ []
 
 -- of the block from l on
 abbrev pub rowIn : List ℕ → List ℕ → List ℕ → List ℕ → ℕ → List ℕ

@@ -1,15 +1,16 @@
 -- Blocks and keys of code that the checks let through. Assumes nothing.
 use mathlib.Core.Path.{_≡_, refl, sym, ap, ap₂, _∙_, subst}
 use mathlib.Core.Logic.{_⊎_, inl, inr, ⊎-elim}
-use mathlib.Core.Bool.{Bool, true, false, cond, not, _||_, _&&_, true≢false}
+use mathlib.Core.Bool.{Bool, true, false, cond, not, _||_, true≢false, Bool·not-not}
 use mathlib.Core.List.{List, [], _∷_, _++_, map, List·Memᴰ, List·Memᴰ·head, List·Memᴰ·not-nil, List·Memᴰ·append-cases, List·Memᴰ·eq-of-singleton, Memᴰ·append-right}
 use Prim.Native.Nat.{ℕ, zero, suc, _+_, _-_, _≤_, _<_}
 use native.Mathlib.Omega.{arith}
+use borrow.Author.Tests.{not-false}
 use lib.Dec.{eqb}
 use lib.ListN.{length}
 use Rattle.stackless_bytecode.specs.declared.Bytecode.{Bytecode}
 use Rattle.base.specs.Lists.{keep, any, Distinct}
-use Rattle.stackless_bytecode.specs.Kinds.{at, isExit, isFlagged, isJump, isBranch, fallsThrough, branchDests, labelOf}
+use Rattle.stackless_bytecode.specs.Kinds.{Branch, Jump, at, isExit, isFlagged, isBranch, fallsThrough, branchDests, labelOf}
 use Rattle.stackless_bytecode.specs.Labels.{lookup, isNamed, labelOffset}
 use Rattle.stackless_bytecode.specs.LookupLaws.{named-at}
 use Rattle.stackless_bytecode.specs.Successors.{ascending, successors}
@@ -25,19 +26,16 @@ Last code k = (suc k ≡ length code) ⊎ (starts code (suc k) ≡ true)
 -- ---- what does not end a block has the next offset for its one successor
 
 quiet-names : (r : Bytecode) → isBranch r ≡ false → branchDests r ≡ []
-unfolding isBranch branchDests isJump
+unfolding isBranch fallsThrough branchDests
 quiet-names r e =
-    let jump = or-false (eqb (r .kind) 4 || eqb (r .kind) 5) (isExit r) (or-false (eqb (r .kind) 4 || eqb (r .kind) 5 || isExit r) (isFlagged r) e .0) in
-    let kinds = or-false (eqb (r .kind) 4) (eqb (r .kind) 5) (jump .0) in
-    ap₂ (λ (a b : Bool). cond a (r .one ∷ r .two ∷ []) (cond (b || isFlagged r) (r .one ∷ []) [])) (kinds .0) (kinds .1)
-    ∙ ap (λ (a : Bool). cond a (r .one ∷ []) []) (or-false (eqb (r .kind) 4 || eqb (r .kind) 5 || isExit r) (isFlagged r) e .1)
+    let both = or-false (not (fallsThrough r)) (isFlagged r) e in
+    let on = or-false (eqb (r .kind) Branch || eqb (r .kind) Jump) (isExit r) (sym (Bool·not-not (eqb (r .kind) Branch || eqb (r .kind) Jump || isExit r)) ∙ both .0) in
+    let kinds = or-false (eqb (r .kind) Branch) (eqb (r .kind) Jump) (on .0) in
+    ap₂ (λ (a b : Bool). cond a (r .one ∷ r .two ∷ []) (cond b (r .one ∷ []) [])) (kinds .0) (ap₂ _||_ (kinds .1) (both .1))
 
 quiet-falls : (r : Bytecode) → isBranch r ≡ false → fallsThrough r ≡ true
-unfolding isBranch fallsThrough
-quiet-falls r e =
-    let both = or-false (isJump r || isExit r) (isFlagged r) e in
-    let two = or-false (isJump r) (isExit r) (both .0) in
-    ap₂ (λ (a b : Bool). not a && (isFlagged r || not b)) (two .0) (two .1) ∙ ap (λ (a : Bool). a || true) (both .1)
+unfolding isBranch
+quiet-falls r e = not-false (fallsThrough r) (or-false (not (fallsThrough r)) (isFlagged r) e .0)
 
 pub succs-mid : (code : List Bytecode) (k : ℕ) → starts code (suc k) ≡ false → successors code k ≡ suc k ∷ []
 unfolding successors starts ascending

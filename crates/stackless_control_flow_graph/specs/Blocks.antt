@@ -2,7 +2,7 @@
 use Prim.Native.Nat.{ℕ, zero, suc, _-_, _*_}
 use mathlib.Core.Bool.{Bool, true, false, cond, _||_}
 use mathlib.Core.List.{List, [], _∷_, _++_, map}
-use lib.ListN.{length, take, replicate}
+use lib.ListN.{getD, length}
 use Rattle.base.specs.Sizes.{rowNumbers}
 use Rattle.base.specs.Lists.{keep, gather, any, place, firsts}
 use Rattle.base.specs.Refusals.{Reply, Done, _then_, lends, reply}
@@ -54,14 +54,12 @@ keyOf ks o = suc (suc (place o ks))
 
 -- ---- the flow table
 
--- three places for the block that ends at u: its successors' keys in the order of the offsets, 1 last at an exit, 0 filling up
-unfoldable pub succKeys : List Bytecode → List ℕ → ℕ → List ℕ
-succKeys code ks u =
-    take 3 (map (keyOf ks) (successors code u) ++ cond (isExit (at code u)) (1 ∷ []) [] ++ replicate 3 0)
-
--- lower, upper, key and successor keys of the block at l
+-- lower, upper and key of the block at l, and two successor keys, 0 filling up: 1 at an exit, else those of its successors in the order of the offsets
 unfoldable pub row : List Bytecode → List ℕ → ℕ → List ℕ
-row code ks l = l ∷ upperOf code l ∷ keyOf ks l ∷ succKeys code ks (upperOf code l)
+row code ks l =
+    let u = upperOf code l in
+    let next = cond (isExit (at code u)) (1 ∷ []) (map (keyOf ks) (successors code u)) in
+    l ∷ u ∷ keyOf ks l ∷ getD next 0 0 ∷ getD next 1 0 ∷ 0 ∷ []
 
 -- six numbers for each block, by offset
 unfoldable pub flowTable : List Bytecode → List ℕ

@@ -1,6 +1,6 @@
 -- The call flow on an accepted sheet. Assumes nothing.
-use mathlib.Core.Path.{_≡_, sym, ap, _∙_}
-use mathlib.Core.List.{List, _++_, map}
+use mathlib.Core.Path.{_≡_, refl, sym, ap, _∙_}
+use mathlib.Core.List.{List, _++_}
 use Prim.Native.Nat.{ℕ, _*_, _<_, _≤_}
 use native.Mathlib.Omega.{arith}
 use lib.ListN.{getD, length, take, drop}
@@ -11,19 +11,16 @@ use Rattle.base.specs.Refusals.{No, Done, Accepted, Refused, lends, outputAfter
 use Rattle.base.specs.ReplyLaws.{call-refused, call-short, call-done, done-output}
 use Rattle.base.specs.PartLaws.{gather-length}
 use Rattle.stackless_bytecode.specs.declared.Bytecode.{Bytecode}
-use Rattle.stackless_bytecode.specs.Kinds.{at, isExit}
-use Rattle.stackless_bytecode.specs.Successors.{successors}
 use Rattle.stackless_bytecode.specs.Slots.{Resolved}
 use Rattle.sheet.specs.Layout.{countOf, codeOf}
 use Rattle.sheet.specs.Checks.{checkSheet}
 use Rattle.sheet.specs.CheckLaws.{code-sound}
 use Rattle.sheet.specs.FormLaws.{accepted-shaped}
-use Rattle.stackless_control_flow_graph.specs.Blocks.{lowers, blocksOf, upperOf, keyed, keyOf, succKeys, row, flowTable, flowReply}
+use Rattle.stackless_control_flow_graph.specs.Blocks.{lowers, blocksOf, keyed, row, flowTable, flowReply}
 use Rattle.stackless_control_flow_graph.specs.BlockLaws.{upper-lt}
-use Rattle.stackless_control_flow_graph.specs.Arrays.{BlocksFound, Numbered, withExit, rowIn, HasRecord, CheckedSheet}
+use Rattle.stackless_control_flow_graph.specs.Arrays.{BlocksFound, Numbered, rowIn, HasRecord, CheckedSheet}
 use Rattle.base.specs.GrowLaws.{below-few}
 use Rattle.stackless_control_flow_graph.specs.CheckedSheetLaws.{accepted-few, accepted-at, accepted-has}
-use Rattle.stackless_control_flow_graph.specs.RowLaws.{exit-length}
 use Rattle.stackless_control_flow_graph.specs.FlowLaws.{in-lowers, lowers-distinct, block-start, block-upper, cut-rows}
 
 -- no more blocks than instructions
@@ -35,10 +32,7 @@ blocks-few code = below-few (length code) (lowers-distinct code) (λ o i. in-low
 
 pub row-length : (code : List Bytecode) (l : ℕ) → length (row code (keyed code) l) ≡ rowNumbers
 unfolding row
-row-length code l = omega (arith, keys-three (keyed code) (upperOf code l))
-  where
-    keys-three : (ks : List ℕ) (u : ℕ) → length (succKeys code ks u) ≡ 3
-    keys-three ks u = unfold succKeys withExit in exit-length (map (keyOf ks) (successors code u)) (isExit (at code u))
+row-length code l = refl
 
 pub table-length : (code : List Bytecode) → length (flowTable code) ≡ rowNumbers * blocksOf code
 unfolding flowTable blocksOf

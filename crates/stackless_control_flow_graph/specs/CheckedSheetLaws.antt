@@ -10,7 +10,7 @@ use Rattle.base.specs.Sizes.{maxInstructions}
 use Rattle.base.specs.Refusals.{Accepted}
 use Rattle.base.specs.ListLaws.{by-eq}
 use Rattle.stackless_bytecode.specs.declared.Bytecode.{Bytecode}
-use Rattle.stackless_bytecode.specs.Kinds.{at, isBranch}
+use Rattle.stackless_bytecode.specs.Kinds.{at, stopOk, isBranch}
 use Rattle.stackless_bytecode.specs.Successors.{Unique, successors}
 use Rattle.stackless_bytecode.specs.Sound.{Sound}
 use Rattle.stackless_bytecode.specs.SlotLaws.{LabelsBelow}
@@ -63,6 +63,9 @@ module _ {s : List ℕ} {n : ℕ} {targets : List ℕ} (g : CheckedSheet s n tar
 
     inside : k < length (codeOf s)
     inside = omega (arith, checked-size)
+
+    pub next-stop : stopOk r ≡ true
+    next-stop = ap stopOk here ∙ checked-sound .stops k inside
 
     pub next-is : (e : Successors) (next : ℕ) → next ≡ k + 1 → offsetsOf e ≡ succsBy r (getD targets (2 * k) 0) (getD targets (2 * k + 1) 0) next → offsetsOf e ≡ successors (codeOf s) k
     next-is e next q p =

@@ -1,6 +1,6 @@
 -- From the arrays to the definitions: the keys and the rows of code that the checks let through. Assumes nothing.
 use mathlib.Core.Path.{_≡_, refl, sym, ap, ap₂, _∙_, subst}
-use mathlib.Core.Bool.{true}
+use mathlib.Core.Bool.{Bool, true, cond}
 use mathlib.Core.List.{List, [], _∷_, _++_, map, List·Memᴰ}
 use Prim.Native.Nat.{ℕ, _+_, _≤_, _<_, zero-le}
 use native.Mathlib.Nat.{le-antisymm}
@@ -17,9 +17,9 @@ use Rattle.stackless_bytecode.specs.Kinds.{at, isExit}
 use Rattle.stackless_bytecode.specs.Successors.{successors}
 use Rattle.stackless_bytecode.specs.Sound.{Sound}
 use Rattle.sheet.specs.Layout.{instructionAt}
-use Rattle.stackless_control_flow_graph.specs.Blocks.{starts, lowers, blocksOf, upperOf, keyed, keyOf, succKeys, row, flowTable}
+use Rattle.stackless_control_flow_graph.specs.Blocks.{starts, lowers, blocksOf, upperOf, keyed, keyOf, row, flowTable}
 use Rattle.stackless_control_flow_graph.specs.BlockLaws.{Start, succs-start, upper-lt, upper-last, keyed-in, in-keyed, keyed-distinct}
-use Rattle.stackless_control_flow_graph.specs.Arrays.{succsIn, BlocksFound, keyIn, firstKey, takers, Near, BlockArrays, Numbered, succKeysIn, withExit, rowFrom, rowIn}
+use Rattle.stackless_control_flow_graph.specs.Arrays.{succsIn, BlocksFound, keyIn, firstKey, takers, Near, BlockArrays, Numbered, nextKeysIn, rowFrom, rowIn}
 use Rattle.base.specs.GrowLaws.{getD-past, gather-agree, map-agree, shorter, keep-distinct}
 use Rattle.stackless_control_flow_graph.specs.StartLaws.{succs-within}
 use Rattle.stackless_control_flow_graph.specs.KeyLaws.{key-some, near}
@@ -138,16 +138,16 @@ module _ (code : List Bytecode) (sound : Sound code) (m : ℕ) (goes ls uppers :
 
     module _ (s : List ℕ) (is : (k : ℕ) → k < length code → at code k ≡ instructionAt s k) where
       row-is : (o : ℕ) → Start code o → rowIn s goes uppers key o ≡ row code (keyed code) o
-      unfolding rowFrom row
+      unfolding rowFrom nextKeysIn row
       row-is o b =
           ap₂ (λ (u : ℕ) (xs : List ℕ). o ∷ u ∷ xs) (block-upper o b)
-          (ap₂ (λ (k : ℕ) (xs : List ℕ). k ∷ xs) (key-at o b) (keys-are o b))
+          (ap₂ (λ (k : ℕ) (xs : List ℕ). k ∷ getD xs 0 0 ∷ getD xs 1 0 ∷ 0 ∷ []) (key-at o b) (keys-are o b))
         where
-          keys-are : (x : ℕ) → Start code x → withExit (succKeysIn key goes (getD uppers x 0)) (isExit (instructionAt s (getD uppers x 0))) ≡ succKeys code (keyed code) (upperOf code x)
+          keys-are : (x : ℕ) → Start code x → nextKeysIn s goes key (getD uppers x 0) ≡ cond (isExit (at code (upperOf code x))) (1 ∷ []) (map (keyOf (keyed code)) (successors code (upperOf code x)))
           keys-are x q =
-              unfold withExit succKeys in ap₂ withExit
-              (ap (map (λ y. getD key y 0)) (block-next x q) ∙ keys-at x q)
+              ap₂ (λ (e : Bool) (ks : List ℕ). cond e (1 ∷ []) ks)
               (ap isExit (ap (instructionAt s) (block-upper x q) ∙ sym (is (upperOf code x) (upper-lt code x (q .inside)))))
+              (ap (map (λ y. getD key y 0)) (block-next x q) ∙ keys-at x q)
 
       pub cut-rows : gather (rowIn s goes uppers key) (take m ls) ≡ flowTable code
       unfolding flowTable

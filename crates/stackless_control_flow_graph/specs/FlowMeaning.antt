@@ -1,12 +1,13 @@
--- What the flow table says of an accepted sheet's code, in the numbers that a caller reads: the blocks cut the code, and their keys are 2 to B + 1. Assumes nothing.
+-- What the flow table says of an accepted sheet's code, in the numbers that a caller reads: the blocks cut the code, their keys are 2 to B + 1, and a row has two successor keys
+-- at most. Assumes nothing.
 use mathlib.Core.Path.{_≡_}
 use mathlib.Core.Bool.{true, false}
-use mathlib.Core.List.{List, List·Memᴰ}
+use mathlib.Core.List.{List, [], List·Memᴰ}
 use Prim.Native.Nat.{ℕ, _+_, _*_, _≤_, _<_}
 use lib.ListN.{getD, length}
 use Rattle.base.specs.Sizes.{rowNumbers}
 use Rattle.stackless_bytecode.specs.declared.Bytecode.{Bytecode}
-use Rattle.stackless_bytecode.specs.Kinds.{at, isBranch, branchDests}
+use Rattle.stackless_bytecode.specs.Kinds.{at, isExit, isBranch, branchDests}
 use Rattle.stackless_bytecode.specs.Labels.{labelOffset}
 use Rattle.stackless_bytecode.specs.Successors.{successors}
 use Rattle.stackless_control_flow_graph.specs.Blocks.{starts}
@@ -34,8 +35,10 @@ pub record FlowMeaning (code : List Bytecode) (blocks : ℕ) (table : List ℕ) 
   pub named : (k l : ℕ) → k < length code → List·Memᴰ l (branchDests (at code k)) → (b : ℕ) × (b < blocks) × (rowLower table b ≡ labelOffset code l)
   -- and none starts without a reason
   pub reason : (b : ℕ) → b < blocks → starts code (rowLower table b) ≡ true
-  -- wherever a block goes on, one starts
+  -- wherever a block goes on, one starts: at two offsets at most, so that the sixth number of its row is 0; an exit goes nowhere
   pub goes : (b o : ℕ) → b < blocks → List·Memᴰ o (successors code (rowUpper table b)) → (d : ℕ) × (d < blocks) × (rowLower table d ≡ o)
+  pub two : (b : ℕ) → b < blocks → (length (successors code (rowUpper table b)) ≤ 2) × (getD table (rowNumbers * b + 5) 0 ≡ 0)
+  pub exits : (b : ℕ) → b < blocks → isExit (at code (rowUpper table b)) ≡ true → successors code (rowUpper table b) ≡ []
   -- the keys are 2 to B + 1, each of one block
   pub keys : (b : ℕ) → b < blocks → (2 ≤ rowKey table b) × (rowKey table b ≤ blocks + 1)
   pub keys-once : (b d : ℕ) → b < blocks → d < blocks → rowKey table b ≡ rowKey table d → b ≡ d

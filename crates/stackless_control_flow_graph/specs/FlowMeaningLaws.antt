@@ -13,6 +13,7 @@ use Rattle.base.specs.PartLaws.{chunk}
 use Rattle.base.specs.Refusals.{Accepted, Result, resultOf, outputAfter}
 use Rattle.stackless_bytecode.specs.declared.Bytecode.{Bytecode}
 use Rattle.stackless_bytecode.specs.Successors.{successors}
+use Rattle.stackless_bytecode.specs.SuccessorLaws.{exit-nowhere, two-successors}
 use Rattle.stackless_bytecode.specs.Labels.{labelOffset}
 use Rattle.stackless_bytecode.specs.Sound.{Sound}
 use Rattle.sheet.specs.Layout.{codeOf}
@@ -56,6 +57,10 @@ module _ (code : List Bytecode) (sound : Sound code) (z : List ℕ) where
     unfolding row
     key-is = number-at 2 (omega arith)
 
+    sixth-is : getD (flowTable code ++ z) (rowNumbers * b + 5) 0 ≡ 0
+    unfolding row
+    sixth-is = number-at 5 (omega arith)
+
     start : Start code (low b)
     start = in-lowers code (low b) (getD-in (lowers code) b 0 inside-lowers)
 
@@ -95,6 +100,8 @@ module _ (code : List Bytecode) (sound : Sound code) (z : List ℕ) where
     reason = λ b h. ap (starts code) (lower-is b h) ∙ start b h .starts;
     goes = λ b o h i. let m = succs-lower code sound (low b) o (start b h) (subst (λ (u : ℕ). List·Memᴰ o (successors code u)) (upper-is b h) i) in
         (place o (lowers code), row-inside o m, lower-is (place o (lowers code)) (row-inside o m) ∙ row-lower o m);
+    two = λ b h. (two-successors code (rowUpper table b), sixth-is b h);
+    exits = λ b h x. exit-nowhere code (rowUpper table b) (sound .stops (rowUpper table b) (omega (arith, upper-is b h, upper-lt code (low b) (start b h .inside)))) x;
     keys = λ b h. (omega (arith, key-is b h, keys-from code sound (low b)), omega (arith, key-is b h, keys-to code sound (low b) (start b h)));
     keys-once = λ b d h g e. same-row b d h g (keys-once code sound (low b) (low d) (start b h) (start d g) (sym (key-is b h) ∙ e ∙ key-is d g));
     keys-all = λ j l h. let k = keys-all code sound j l h in

@@ -1,7 +1,7 @@
 -- The pass over the instructions: successors into their places, and marks where blocks start. Assumes nothing.
 use mathlib.Core.Path.{_≡_, refl, sym, ap, ap₂, _∙_, subst}
 use mathlib.Core.Logic.{_⊎_, inl, inr, ⊎-elim}
-use mathlib.Core.Bool.{Bool, true, false, cond, _||_, true≢false}
+use mathlib.Core.Bool.{Bool, true, false, cond, not, _||_, true≢false}
 use mathlib.Core.List.{List, [], _∷_, _++_, map, List·Memᴰ, List·Memᴰ·head, List·Memᴰ·tail, List·Memᴰ·not-nil, List·Memᴰ·cases-cons}
 use Prim.Native.Nat.{ℕ, zero, suc, _+_, _*_, _/_, _%_, _-_, _≤_, _<_}
 use native.Mathlib.Omega.{arith}
@@ -13,7 +13,7 @@ use lib.Seq.{take-nil, getD-set-same, getD-set-other}
 use Rattle.base.specs.Lists.{over, any}
 use Rattle.base.specs.ListLaws.{by-test, by-eq, or-true, in-any}
 use Rattle.stackless_bytecode.specs.declared.Bytecode.{Bytecode}
-use Rattle.stackless_bytecode.specs.Kinds.{at, isExit, isFlagged, isJump, isBranch, fallsThrough, branchDests, labelOf}
+use Rattle.stackless_bytecode.specs.Kinds.{at, isExit, isFlagged, isBranch, fallsThrough, branchDests, labelOf}
 use Rattle.stackless_bytecode.specs.Successors.{Unique, ascending, successors}
 use Rattle.stackless_bytecode.specs.KindLaws.{by-dests}
 use Rattle.stackless_bytecode.specs.Labels.{lookup, offsetOf, isNamed, labelOffset}
@@ -218,13 +218,13 @@ marks-more code sound k m h room e g = record {
 
 -- a named label's instruction branches
 names-branch : (r : Bytecode) (l : ℕ) → List·Memᴰ l (branchDests r) → isBranch r ≡ true
-unfolding branchDests isBranch isJump
+unfolding branchDests isBranch fallsThrough
 names-branch r l i = go (eqb (r .kind) 4) (eqb (r .kind) 5) (isFlagged r) i
   where
-    go : (a b f : Bool) → List·Memᴰ l (cond a (r .one ∷ r .two ∷ []) (cond (b || f) (r .one ∷ []) [])) → a || b || isExit r || f ≡ true
+    go : (a b f : Bool) → List·Memᴰ l (cond a (r .one ∷ r .two ∷ []) (cond (b || f) (r .one ∷ []) [])) → not (not (a || b || isExit r)) || f ≡ true
     go true b f m = refl
     go false true f m = refl
-    go false false true m = or-end (isExit r)
+    go false false true m = or-end (not (not (isExit r)))
       where
         or-end : (a : Bool) → a || true ≡ true
         or-end true = refl

@@ -12,10 +12,9 @@ ghost use Rattle.stackless_bytecode.specs.declared.Bytecode.{Bytecode};
 ghost use Rattle.stackless_bytecode.specs.Sound.{Sound};
 ghost use Rattle.sheet.specs.Layout.{codeOf};
 ghost use Rattle.stackless_control_flow_graph.specs.Blocks.{keyed};
-ghost use Rattle.stackless_control_flow_graph.specs.Arrays.{noOffset, offsetIn, offsetsOf, threeOf, succsIn, succKeysIn, firstKey, keyIn, Near, takers, BlockArrays, BlocksFound, Numbered, CheckedSheet};
+ghost use Rattle.stackless_control_flow_graph.specs.Arrays.{noOffset, offsetIn, offsetsOf, succsIn, succKeysIn, firstKey, keyIn, Near, takers, BlockArrays, BlocksFound, Numbered, CheckedSheet};
 ghost use Rattle.stackless_control_flow_graph.specs.Graph.{OffsetKeys};
 use crate::Successors;
-use crate::Three;
 use crate::blocks::block_at;
 use crate::blocks::find_blocks;
 use crate::starts::NO_OFFSET;
@@ -163,15 +162,4 @@ pub fn successor_keys(goes: &[u16], u: usize, keys: &[u16]) -> Successors
     };
     let e = with_key(none, goes[at], keys);
     with_key(e, goes[at + 1], keys)
-}
-
-// Three keys.
-pub fn three(first: u16, second: u16, third: u16) -> Three
-    ensures { λ r. ⌜ threeOf r ≡ first ∷ second ∷ third ∷ [] ⌝ }
-{
-    Three {
-        first,
-        second,
-        third,
-    }
 }

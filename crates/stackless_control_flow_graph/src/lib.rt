@@ -16,10 +16,3 @@ pub struct Block {
     pub lower: usize,
     pub upper: usize,
 }
-
-// Three keys.
-pub struct Three {
-    pub first: u16,
-    pub second: u16,
-    pub third: u16,
-}

@@ -65,8 +65,11 @@ pub record Refusals : Type 0 where
   pub refused-4-sub : checkSheet (sheetWith 1 (plain 0 3 0 0 0 (0 ∷ []) (0 ∷ []) ∷ ret 0 [] ∷ [])) ≡ Refused 4 0
   -- a record past n, at its own place
   pub refused-4-past : checkSheet (changed (sheetWith 1 (ret 0 [] ∷ ret 0 [] ∷ [])) 4 1 3) ≡ Refused 4 1
-  -- each check runs over the whole sheet before the next
+  -- each check runs over the whole sheet before the next, 18 behind 4 and before 5
   pub refused-4-first : checkSheet (sheetWith 1 (ret 0 (1 ∷ []) ∷ plain 0 3 0 0 0 (0 ∷ []) (0 ∷ []) ∷ ret 0 [] ∷ [])) ≡ Refused 4 1
+  pub refused-18 : checkSheet (sheetWith 1 (call 0 Stop [] [] ∷ flagged (call 0 Not [] []) 1 0 ∷ flagged (call 0 Stop [] []) 1 0 ∷ flagged (call 0 Stop [] []) 1 0 ∷ label 0 1 ∷ [])) ≡ Refused 18 2
+  pub refused-4-not-18 : checkSheet (sheetWith 1 (flagged (call 0 Stop [] []) 1 0 ∷ plain 12 0 0 0 0 [] [] ∷ [])) ≡ Refused 4 1
+  pub refused-18-not-5 : checkSheet (sheetWith 1 (ret 0 (1 ∷ []) ∷ flagged (call 0 Stop [] []) 1 1 ∷ [])) ≡ Refused 18 1
   pub refused-5 : checkSheet (sheetWith 1 (ret 0 (1 ∷ []) ∷ [])) ≡ Refused 5 0
   pub refused-5-abort : checkSheet (sheetWith 1 (flagged (call 0 Not [] []) 1 1 ∷ label 0 1 ∷ ret 0 [] ∷ [])) ≡ Refused 5 0
   pub refused-6 : checkSheet (sheetWith 1 (label 0 1 ∷ label 0 1 ∷ ret 0 [] ∷ [])) ≡ Refused 6 1
@@ -74,8 +77,6 @@ pub record Refusals : Type 0 where
   pub refused-8 : checkSheet (sheetWith 1 (load 0 0 ∷ [])) ≡ Refused 8 0
   -- whether or not a path reaches the end
   pub refused-8-unreached : checkSheet (sheetWith 1 (ret 0 [] ∷ load 0 0 ∷ [])) ≡ Refused 8 1
-  -- a flagged Stop falls through
-  pub refused-8-stop : checkSheet (sheetWith 1 (label 0 1 ∷ flagged (call 0 Stop [] []) 1 0 ∷ [])) ≡ Refused 8 1
   pub refused-9-flow : flowReply m1 5 ≡ No 9 0
   pub refused-9-live : liveReply m1 15 ≡ No 9 0
   pub refused-9-rewrite : rewriteReply m1 (maxBytes - 1) ≡ No 9 0
@@ -119,13 +120,15 @@ refusals = record {
   refused-4-sub = refl;
   refused-4-past = refl;
   refused-4-first = refl;
+  refused-18 = refl;
+  refused-4-not-18 = refl;
+  refused-18-not-5 = refl;
   refused-5 = refl;
   refused-5-abort = refl;
   refused-6 = refl;
   refused-7 = refl;
   refused-8 = refl;
   refused-8-unreached = refl;
-  refused-8-stop = refl;
   refused-9-flow = refl;
   refused-9-live = refl;
   refused-9-rewrite = refl;
@@ -168,9 +171,6 @@ pub record Readings : Type 0 where
   pub unnamed-label : flowTable (label 0 5 ∷ ret 0 [] ∷ []) ≡ 0 ∷ 1 ∷ 2 ∷ 1 ∷ 0 ∷ 0 ∷ []
   -- a Label is named by code that no path reaches, too
   pub named-unreached : flowTable (plain 8 0 0 0 0 [] [] ∷ label 0 1 ∷ ret 0 [] ∷ jump 0 1 ∷ []) ≡ 0 ∷ 0 ∷ 3 ∷ 2 ∷ 0 ∷ 0 ∷ 1 ∷ 2 ∷ 2 ∷ 1 ∷ 0 ∷ 0 ∷ 3 ∷ 3 ∷ 4 ∷ 2 ∷ 0 ∷ 0 ∷ []
-  -- a flagged Stop has three keys: its label's, the next block's, and 1
-  pub flagged-stop : flowTable (flagged (call 0 Stop [] []) 1 0 ∷ ret 0 [] ∷ label 0 1 ∷ ret 0 [] ∷ [])
-      ≡ 0 ∷ 0 ∷ 4 ∷ 2 ∷ 3 ∷ 1 ∷ 1 ∷ 1 ∷ 2 ∷ 1 ∷ 0 ∷ 0 ∷ 2 ∷ 3 ∷ 3 ∷ 1 ∷ 0 ∷ 0 ∷ []
   -- the set's bytes: before, then after
   pub live-bytes : liveReply m1 16 ≡ Done 3 (1 ∷ 0 ∷ 0 ∷ 0 ∷ 0 ∷ 0 ∷ 0 ∷ 0 ∷ 0 ∷ 0 ∷ 0 ∷ 0 ∷ 0 ∷ 0 ∷ 0 ∷ 0 ∷ [])
   -- a destination that is a source stays in, and so does d in an Assign from d to d
@@ -196,7 +196,6 @@ readings = record {
   double-edge-taken = refl;
   unnamed-label = refl;
   named-unreached = refl;
-  flagged-stop = refl;
   live-bytes = refl;
   destination-is-source = refl;
   assign-to-itself = refl;

@@ -17,11 +17,9 @@ same-length c = simp length-set
 
 returns : tie.Need-returns
 returns c =
-    let c11 = c .before .before .before .before .before .before .before .before .before .before .before in
-    let a = c11 .args in
-    let e = c .before .before .before .with-exit in
-    let k = c .before .before .before .before .before .successor-keys in
-    row-put (a .out .now) (a .sheet .now) (a .goes .now) (a .keys .now) (a .l) (a .u) _ _ (e .result) _ _ (c11 .pre .4) (c .before .before .usize-to-u16 .ensures) (c .before .usize-to-u162 .ensures) _ (e .ensures) (k .ensures) (c .before .before .before .before .is-exit .ensures) (c .before .before .before .before .before .before .instruction-at .ensures)
+    let c10 = c .before .before .before .before .before .before .before .before .before .before in
+    let a = c10 .args in
+    row-put (a .out .now) (a .sheet .now) (a .goes .now) (a .keys .now) _ (a .l) (a .u) _ _ _ _ (c10 .pre .4) (c .before .before .before .before .usize-to-u16 .ensures) (c .before .before .before .usize-to-u162 .ensures) (c .before .before .before .before .before .next-keys .ensures) (c .before .first-or .ensures) (c .second-or .ensures)
 
 pub write-row-spec : {M : Type 1} → statement M
 write-row-spec =
@@ -29,16 +27,15 @@ write-row-spec =
     (tie.spec
     (λ c κs. search needs)
     (λ c κs. search needs)
-    (λ c κs. search needs)
-    (λ c κs. search needs)
-    (λ c κs. search needs)
     (λ c. search needs)
     (λ c κs. search needs)
     (λ c. search needs)
     (λ c. search needs)
     (λ c. search needs)
     (λ c. search needs)
+    (λ c κs. search needs)
     (λ c. search needs)
+    (λ c κs. search needs)
     slice-write-out-5
     slice-write-out-6
     same-length

@@ -40,7 +40,7 @@ part-is : (c : tie.After-u16-to-usize3) (code : List Bytecode) → let c11 = c .
     → length (c11 .args .met .now) ≡ 2 + length (keyed code) → take (c .u16-to-usize3 .result - c .before .before .u16-to-usize2 .result) (drop (c .before .before .u16-to-usize2 .result) (c11 .args .edges .now)) ≡ leads code (c11 .args .k)
 part-is c code edges n =
     let c11 = c .before .before .before .before .before .before .before .before .before .before .before in
-    rw (from-is c, to-is c) (edges .leads .each (c11 .args .k) (omega (arith, c11 .pre .inside)))
+    rw (from-is c, to-is c) (edges .leads .each (c11 .args .k) (omega (arith, c11 .pre .inside)) (c .before .before .before .before .before .if1 .left))
 
 mul-hand-on : tie.Need-mul-hand-on
 mul-hand-on c = let h = inside (c .before .before .before) in search needs

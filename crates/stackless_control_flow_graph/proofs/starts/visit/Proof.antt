@@ -7,7 +7,7 @@ use Rattle.stackless_control_flow_graph.specs.Arrays.{offsetsOf}
 use Rattle.stackless_bytecode.specs.SlotLaws.{LabelsBelow}
 use mathlib.Core.Path.{_≡_, sym, _∙_}
 use Rattle.sheet.specs.Shaped.{record-inside}
-use Rattle.stackless_control_flow_graph.specs.CheckedSheetLaws.{checked-shaped, next-is, next-within, visit-quiet, visit-branch}
+use Rattle.stackless_control_flow_graph.specs.CheckedSheetLaws.{checked-shaped, next-stop, next-is, next-within, visit-quiet, visit-branch}
 use native.Mathlib.Omega.{arith}
 use borrow.Author.Needs.{needs}
 use Rattle.stackless_control_flow_graph.proofs.starts.visit.Statement.{statement}
@@ -24,6 +24,12 @@ usize-to-u16-requires c κs = omega (arith, checked-shaped (c .before .before .b
 -- the record that is read has labels of 16 bits
 below : (c : tie.After-instruction-at) → LabelsBelow (c .instruction-at .result)
 below c = record { one = search needs; two = search needs }
+
+by-kind-requires : tie.Need-by-kind-requires
+by-kind-requires c κs =
+    let c4 = c .before .before .before in
+    let c9 = c4 .before .before .before .before .before in
+    next-stop (c9 .pre .0) (c9 .args .k) (c9 .pre .1) (c4 .instruction-at .result) (c4 .instruction-at .ensures) (below c4)
 
 succs-are : (c : tie.After-by-kind) → let c9 = c .before .before .before .before .before .before .before .before .before in offsetsOf (c .by-kind .result) ≡ successors (codeOf (c9 .args .sheet .now)) (c9 .args .k)
 succs-are c =
@@ -70,7 +76,7 @@ visit-spec =
     (λ c. search needs)
     (λ c. search needs)
     usize-to-u16-requires
-    (λ c κs. search needs)
+    by-kind-requires
     (λ c κs. search needs)
     (λ c κs. search needs)
     mark-starts-requires
