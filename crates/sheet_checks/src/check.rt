@@ -5,7 +5,7 @@ ghost use Prim.Native.Nat.{_-_, _*_, _≤_};
 ghost use lib.ListN.{length};
 ghost use Rattle.base.specs.Sizes.{maxInstructions};
 ghost use Rattle.base.specs.Lists.{firstBad};
-ghost use Rattle.base.specs.Refusals.{Accepted, check, verdictOf};
+ghost use Rattle.base.specs.Refusals.{Accepted, check, _then_, verdictOf};
 ghost use Rattle.stackless_bytecode.specs.Kinds.{at, stopOk, fallsThrough};
 ghost use Rattle.stackless_bytecode.specs.Slots.{Resolved};
 ghost use Rattle.sheet.specs.Layout.{localsOf, codeOf};
@@ -87,16 +87,24 @@ fn check_end(s: &[u8], n: usize) -> Checked
     Checked::Accepted
 }
 
+// What two checks say, one after the other: the first that refuses decides.
+fn first_of(first: Checked, second: Checked) -> Checked
+    ensures { λ r. ⌜ verdictOf r ≡ (verdictOf first then verdictOf second) ⌝ }
+{
+    let Checked::Accepted = first else {
+        return first;
+    };
+    second
+}
+
 // Checks 18 and 5 to 8.
 fn check_code(s: &[u8], n: usize, targets: &mut [u16]) -> Checked
     requires { ⌜ Shaped (now s) n × (2 * n ≤ length (now targets)) ⌝ }
     ensures { λ r. ⌜ (verdictOf r ≡ checkCode (localsOf (now (s .entry))) (codeOf (now (s .entry)))) × (verdictOf r ≡ Accepted → Resolved (codeOf (now (s .entry))) (now (targets .exit))) ⌝ }
 {
     let stops = check_stops(s, n);
-    let Checked::Accepted = stops else {
-        return stops;
-    };
-    let five = check_locals(s, n);
+    let locals = check_locals(s, n);
+    let five = first_of(stops, locals);
     let Checked::Accepted = five else {
         return five;
     };

@@ -16,7 +16,8 @@ use Rattle.base.specs.SearchLaws.{bad-pass, bad-here, bad-same}
 use Rattle.base.specs.ListLaws.{by-test}
 use Rattle.base.specs.GrowLaws.{getD-past, getD-within}
 use Rattle.base.specs.PartLaws.{front-part}
-use Rattle.sheet.specs.Layout.{countOf, recordStart, recordAt, decode}
+use Rattle.sheet.specs.Layout.{countOf, decode}
+use Rattle.sheet.specs.InBlock.{recordIn, handed, record-in}
 use Rattle.sheet.specs.Checks.{shapes, noShape, shapeOf, fits, recordOk, placeOk}
 use Rattle.sheet.specs.declared.Shape.{Shape}
 use Rattle.base.specs.Refusals.{foundOf}
@@ -24,27 +25,9 @@ use Rattle.base.specs.RefusalLaws.{found-at, found-none}
 use Rattle.base.specs.declared.Found.{Found}
 use Rattle.base.specs.declared.Found.the-variants.{At, Nothing}
 
--- the record of place k in the block with bytes p, whose first record has place `from`
-abbrev pub recordIn : List ℕ → ℕ → ℕ → List ℕ
-recordIn p from k = part p (recordsFrom + recordBytes * (k - from)) recordBytes
-
--- and whether it is right: `placeOk` of the sheet
+-- whether the record of place k in the block with bytes p is right: `placeOk` of the sheet
 unfoldable pub inBlock : List ℕ → ℕ → ℕ → ℕ → Bool
 inBlock p from n k = cond (ltb k n) (recordOk (decode (recordIn p from k))) (zeros (recordIn p from k))
-
--- ---- a block's records are the sheet's
-
-record-in : (s : List ℕ) (b k : ℕ) → blockRecords * b ≤ k → k < blockRecords * b + blockRecords → recordIn (part s (blockBytes * (1 + b)) blockBytes) (blockRecords * b) k ≡ recordAt s k
-record-in s b k l h =
-    let start : blockBytes * (1 + b) + (recordsFrom + recordBytes * (k - blockRecords * b)) ≡ recordStart k = omega arith in
-    front-part 0 (recordsFrom + recordBytes * (k - blockRecords * b)) recordBytes blockBytes (drop (blockBytes * (1 + b)) s) (omega arith)
-    ∙ ap (take recordBytes) (drop-drop (recordsFrom + recordBytes * (k - blockRecords * b)) (blockBytes * (1 + b)) s ∙ ap (λ (x : ℕ). drop x s) start)
-
-block-places : (s : List ℕ) (n b : ℕ) → n ≡ countOf s → firstBad blockRecords (blockRecords * b) (inBlock (part s (blockBytes * (1 + b)) blockBytes) (blockRecords * b) n) ≡ firstBad blockRecords (blockRecords * b) (placeOk s)
-unfolding inBlock placeOk
-block-places s n b e =
-    bad-same blockRecords (blockRecords * b) _ _
-    (λ k l h. rw (record-in s b k l h, e) refl)
 
 -- the record at place k of a block, which the code hands on from its start a
 pub place-in : (p : List ℕ) (from n k a : ℕ) (b : Bool) → a ≡ recordsFrom + recordBytes * (k - from)
@@ -54,14 +37,11 @@ place-in p from n k a b start e = sym (e ∙ rw (add-sub-cancel-left, start) ref
 
 -- ---- one turn of the search by blocks
 
--- block 1 + b as the code hands it on
-abbrev pub handed : List ℕ → ℕ → List ℕ
-handed s b = take (blockBytes * (1 + b) + blockBytes - blockBytes * (1 + b)) (drop (blockBytes * (1 + b)) s)
-
 handed-places : (s : List ℕ) (n b : ℕ) → n ≡ countOf s → firstBad blockRecords (blockRecords * b) (placeOk s) ≡ firstBad blockRecords (blockRecords * b) (inBlock (handed s b) (blockRecords * b) n)
+unfolding inBlock placeOk
 handed-places s n b e =
-    let size : blockBytes ≡ blockBytes * (1 + b) + blockBytes - blockBytes * (1 + b) = omega arith in
-    sym (block-places s n b e) ∙ ap (λ (m : ℕ). firstBad blockRecords (blockRecords * b) (inBlock (take m (drop (blockBytes * (1 + b)) s)) (blockRecords * b) n)) size
+    bad-same blockRecords (blockRecords * b) _ _
+    (λ k l h. rw (record-in s b k l h, e) refl)
 
 -- nothing is found in block b: the search goes on behind it
 pub pass-block : (s : List ℕ) (n blocks b : ℕ) (found : Found) → n ≡ countOf s → b < blocks

@@ -37,11 +37,14 @@ quiet-falls : (r : Bytecode) → isBranch r ≡ false → fallsThrough r ≡ tru
 unfolding isBranch
 quiet-falls r e = not-false (fallsThrough r) (or-false (not (fallsThrough r)) (isFlagged r) e .0)
 
-pub succs-mid : (code : List Bytecode) (k : ℕ) → starts code (suc k) ≡ false → successors code k ≡ suc k ∷ []
-unfolding successors starts ascending
-succs-mid code k e =
-    let quiet = or-false (isBranch (at code k)) (any (λ l. isNamed (lookup code l)) (labelOf (at code (suc k)))) e .0 in
+pub succs-quiet : (code : List Bytecode) (k : ℕ) → isBranch (at code k) ≡ false → successors code k ≡ suc k ∷ []
+unfolding successors ascending
+succs-quiet code k quiet =
     ap₂ (λ (ns : List ℕ) (b : Bool). ascending (map (labelOffset code) ns ++ cond b (suc k ∷ []) [])) (quiet-names (at code k) quiet) (quiet-falls (at code k) quiet)
+
+pub succs-mid : (code : List Bytecode) (k : ℕ) → starts code (suc k) ≡ false → successors code k ≡ suc k ∷ []
+unfolding starts
+succs-mid code k e = succs-quiet code k (or-false (isBranch (at code k)) (any (λ l. isNamed (lookup code l)) (labelOf (at code (suc k)))) e .0)
 
 -- ---- what ends a block has starts for successors
 

@@ -1,8 +1,9 @@
 -- What an accepted sheet gives the flow. Assumes nothing.
 use mathlib.Core.Path.{_≡_, refl, sym, ap, ap₂, _∙_, subst}
 use mathlib.Core.Bool.{true, false}
-use mathlib.Core.List.{List, _∷_, List·Memᴰ}
+use mathlib.Core.List.{List, [], _∷_, List·Memᴰ}
 use Prim.Native.Nat.{ℕ, _+_, _*_, _<_, _≤_}
+use native.Mathlib.Numerals.{add-one}
 use native.Mathlib.Omega.{arith}
 use lib.ListN.{getD, set, length}
 use lib.Seq.{getD-set-same, getD-set-other}
@@ -23,6 +24,7 @@ use Rattle.sheet.specs.ValidLaws.{accepted-valid}
 use Rattle.stackless_control_flow_graph.specs.declared.Successors.{Successors}
 use Rattle.stackless_control_flow_graph.specs.Blocks.{starts}
 use Rattle.stackless_control_flow_graph.specs.Arrays.{offsetsOf, succsBy, putTwo, markAll, Within, SuccessorsTo, Marking, Visits, HasRecord, CheckedSheet}
+use Rattle.stackless_control_flow_graph.specs.BlockLaws.{succs-quiet}
 use Rattle.stackless_control_flow_graph.specs.StartLaws.{resolved-succs, succs-within, two-places, going-more, marks-skip, marks-more}
 
 -- ---- an accepted sheet
@@ -71,6 +73,10 @@ module _ {s : List ℕ} {n : ℕ} {targets : List ℕ} (g : CheckedSheet s n tar
     next-is e next q p =
         p ∙ ap₂ (λ (x : Bytecode) (y : ℕ). succsBy x (getD targets (2 * k) 0) (getD targets (2 * k + 1) 0) y) here q
         ∙ resolved-succs (codeOf s) targets k (g .resolved) inside (subst (λ (x : Bytecode). LabelsBelow x) here below)
+
+    -- what does not end a block goes on
+    pub next-on : (e : Successors) (next : ℕ) → next ≡ k + 1 → offsetsOf e ≡ next ∷ [] → isBranch r ≡ false → offsetsOf e ≡ successors (codeOf s) k
+    next-on e next q p b = p ∙ ap (λ (x : ℕ). x ∷ []) (q ∙ add-one k) ∙ sym (succs-quiet (codeOf s) k (ap isBranch (sym here) ∙ b))
 
     pub next-within : (e : Successors) → offsetsOf e ≡ successors (codeOf s) k → Within n (offsetsOf e)
     next-within e p = record { each = λ x i. omega (arith, checked-size, succs-within (codeOf s) checked-sound k inside .each x (subst (λ (l : List ℕ). List·Memᴰ x l) p i)) }

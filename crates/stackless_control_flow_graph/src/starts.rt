@@ -9,6 +9,7 @@ use crate::Successors;
 use crate::next::by_kind;
 use crate::next::first_or;
 use crate::next::second_or;
+use crate::next::single;
 use base::width::u16_to_usize;
 use base::width::usize_to_u16;
 use sheet::reader;
@@ -50,13 +51,15 @@ fn visit(sheet: &[u8], n: usize, targets: &[u16], k: usize, goes: &mut [u16], ma
     ensures { λ _. ⌜ Visits (codeOf (now (sheet .entry))) k (now (goes .entry)) (now (marks .entry)) (now (goes .exit)) (now (marks .exit)) ⌝ }
 {
     let r = reader::instruction_at(sheet, k);
-    let at = 2 * k;
     let next = k + 1;
+    if !r.is_branch() {
+        put_two(goes, k, single(usize_to_u16(next)));
+        return;
+    }
+    let at = 2 * k;
     let e = by_kind(r, targets[at], targets[at + 1], usize_to_u16(next));
     put_two(goes, k, e);
-    if r.is_branch() {
-        mark_starts(marks, next, e);
-    }
+    mark_starts(marks, next, e);
 }
 
 // The successors of every offset, and 1 where a block starts: at 0, at the successors of whatever branches, and behind it.

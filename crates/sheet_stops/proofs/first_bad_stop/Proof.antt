@@ -1,45 +1,51 @@
--- `first_bad_stop` meets its contract: at each turn, what the search gives from the start is what it gives from here. Assumes nothing.
+-- `first_bad_stop` meets its contract: each turn is one block of the search. Assumes nothing.
 use mathlib.Core.Path.{_≡_, sym, ap, _∙_}
-use Prim.Native.Nat.{_-_}
-use borrow.Author.Tests.{not-true, not-false}
+use Prim.Native.Nat.{ℕ, _+_, _-_, _*_, _≤_}
+use native.Mathlib.Omega.{arith}
 use borrow.Author.Needs.{needs}
+use lib.ListN.{length}
+use Rattle.base.specs.Sizes.{blockBytes, blockRecords}
 use Rattle.base.specs.Lists.{firstBad}
-use Rattle.base.specs.SearchLaws.{bad-start, bad-more, bad-stop, bad-end}
+use Rattle.base.specs.SearchLaws.{bad-start, bad-end}
 use Rattle.base.specs.Refusals.{foundOf}
 use Rattle.stackless_bytecode.specs.Kinds.{at, stopOk}
-use Rattle.sheet.specs.Layout.{codeOf}
-use Rattle.sheet.specs.Shaped.{record-inside, code-at}
+use Rattle.sheet.specs.Layout.{recordBlocks, codeOf}
+use Rattle.sheet_stops.specs.StopLaws.{few-records, pass-block, stop-block}
 use Rattle.sheet_stops.proofs.first_bad_stop.Statement.{statement}
 use Rattle.sheet_stops.proofs.first_bad_stop.Tie as tie
 
 abbrev Inv-loop : tie.InvT-loop
-Inv-loop s n k₀ k = firstBad n 0 (λ j. stopOk (at (codeOf s) j)) ≡ firstBad (n - k) k (λ j. stopOk (at (codeOf s) j))
+Inv-loop s n b₀ from₀ b from = (from ≡ blockRecords * b) × (firstBad n 0 (λ j. stopOk (at (codeOf s) j)) ≡ firstBad (n - from) from (λ j. stopOk (at (codeOf s) j)))
 
 abbrev μ-loop : tie.MeasureT-loop
-μ-loop s n k₀ k = n - k
+μ-loop s n b₀ from₀ b from = n - from
 
 loop-holds : tie.Need-loop-holds Inv-loop μ-loop
-loop-holds c = bad-start _ _
+loop-holds c = (omega arith, bad-start _ _)
 
-instruction-at-requires : tie.Need-instruction-at-requires Inv-loop μ-loop
-instruction-at-requires c κs = (record-inside (c .before .before .before .pre) _ (search needs), search needs)
+-- the block is in the sheet
+inside : (c : tie.In-loop Inv-loop μ-loop) → blockBytes * (1 + c .before .loop .b) + blockBytes ≤ length (c .before .before .before .args .s .now)
+unfolding recordBlocks
+inside c = omega (arith, c .before .before .before .pre .size, c .before .loop .inv .0)
 
--- the test of the record that is read is that of the code's instruction
-here : (c : tie.After-stop-ok Inv-loop μ-loop) → stopOk (at (codeOf (c .before .before .before .before .before .args .s .now)) (c .before .before .before .loop .k)) ≡ c .stop-ok .result
-here c = ap stopOk (code-at (c .before .before .before .before .before .pre) _ (search needs) ∙ sym (c .before .instruction-at .ensures)) ∙ sym (c .stop-ok .ensures)
+first-in-requires : tie.Need-first-in-requires Inv-loop μ-loop
+first-in-requires c κs =
+    let l = c .before .before .before .loop in
+    (search needs, omega (arith, c .before .before .before .before .before .pre .few), few-records (c .before .at-most .ensures))
 
 returns : tie.Need-returns Inv-loop μ-loop
 returns c =
-    let l = c .before .before .before .before .loop in
-    sym (ap foundOf (l .inv ∙ bad-stop _ (l .k) _ (search needs) (here (c .before) ∙ not-true _ (c .if1 .taken))))
+    let l = c .before .before .before .before .before .before .loop in
+    stop-block (c .before .before .before .before .before .before .before .before .pre) (l .b) _ (l .from) (l .inv .0) (c .before .before .before .before .at-most .ensures) (search needs) _ _ (c .before .before .first-in .ensures) (c .enum-told2 .given .1)
+    ∙ sym (ap foundOf (l .inv .1))
 
 loop-again : tie.Need-loop-again Inv-loop μ-loop
 loop-again c =
-    let l = c .before .before .before .before .loop in
-    l .inv ∙ bad-more _ (l .k) _ (search needs) (here (c .before) ∙ not-false _ (c .if1 .left))
+    let l = c .before .before .before .before .before .before .loop in
+    (omega (arith, l .inv .0), l .inv .1 ∙ pass-block (c .before .before .before .before .before .before .before .before .pre) (l .b) _ (l .from) (l .inv .0) (c .before .before .before .before .at-most .ensures) (search needs) _ (c .before .before .first-in .ensures) (c .enum-told .given .1))
 
 returns-2 : tie.Need-returns-2 Inv-loop μ-loop
-returns-2 c = sym (ap foundOf (c .before .loop .inv ∙ bad-end _ (c .before .loop .k) _ (search needs)))
+returns-2 c = sym (ap foundOf (c .before .loop .inv .1 ∙ bad-end _ (c .before .loop .from) _ (search needs)))
 
 pub first-bad-stop-spec : {M : Type 1} → statement M
 first-bad-stop-spec =
@@ -48,9 +54,19 @@ first-bad-stop-spec =
     Inv-loop
     μ-loop
     loop-holds
-    instruction-at-requires
+    (λ c. let h = inside c in search needs)
+    (λ c. let h = inside c in search needs)
+    (λ c. search needs)
     (λ c κs. search needs)
+    (λ c. let h = inside (c .before) in search needs)
+    (λ c. let h = inside (c .before) in search needs)
+    (λ c. let h = inside (c .before) in search needs)
+    (λ c. let h = inside (c .before) in search needs)
+    first-in-requires
+    (λ c. search needs)
+    (λ c. search needs)
     returns
+    (λ c. let h = inside (c .before .before .before .before .before) in search needs)
     (λ c. search needs)
     (λ c. search needs)
     loop-again

@@ -1,0 +1,72 @@
+-- The search of check 18, one block a turn. Assumes nothing.
+use mathlib.Core.Path.{_≡_, sym, ap, _∙_}
+use mathlib.Core.Logic.{_⊎_, inl, inr}
+use mathlib.Core.List.{List}
+use mathlib.Core.Option.{none, some}
+use Prim.Native.Nat.{ℕ, _+_, _-_, _*_, _≤_, _<_}
+use native.Mathlib.Omega.{arith}
+use lib.ListN.{take, drop}
+use Rattle.base.specs.Sizes.{recordsFrom, recordBytes, blockRecords}
+use Rattle.base.specs.Lists.{firstBad}
+use Rattle.base.specs.SearchLaws.{bad-pass, bad-here, bad-same}
+use Rattle.base.specs.Refusals.{foundOf}
+use Rattle.base.specs.RefusalLaws.{found-at, found-none}
+use Rattle.base.specs.declared.Found.{Found}
+use Rattle.base.specs.declared.Found.the-variants.{At, Nothing}
+use Rattle.stackless_bytecode.specs.declared.Bytecode.{Bytecode}
+use Rattle.stackless_bytecode.specs.Kinds.{at, stopOk}
+use Rattle.sheet.specs.Layout.{decode, instructionAt, codeOf}
+use Rattle.sheet.specs.Shaped.{Shaped, code-at}
+use Rattle.sheet.specs.InBlock.{recordIn, handed, record-in}
+
+-- the record of place k, as the code reads it
+pub record-is : (p : List ℕ) (from k : ℕ) (r : Bytecode) → let a = recordsFrom + recordBytes * (k - from) in r ≡ decode (take (a + recordBytes - a) (drop a p)) → r ≡ decode (recordIn p from k)
+record-is p from k r e =
+    let size : recordsFrom + recordBytes * (k - from) + recordBytes - (recordsFrom + recordBytes * (k - from)) ≡ recordBytes = omega arith in
+    e ∙ ap (λ (m : ℕ). decode (take m (drop (recordsFrom + recordBytes * (k - from)) p))) size
+
+-- the lower of what is left and of a block's records
+pub few-records : {m left : ℕ} → ((m ≡ left) × (left ≤ blockRecords)) ⊎ ((m ≡ blockRecords) × (blockRecords ≤ left)) → m ≤ blockRecords
+few-records (inl (e, l)) = omega arith
+few-records (inr (e, l)) = omega arith
+
+few-left : {m left : ℕ} → ((m ≡ left) × (left ≤ blockRecords)) ⊎ ((m ≡ blockRecords) × (blockRecords ≤ left)) → m ≤ left
+few-left (inl (e, l)) = omega arith
+few-left (inr (e, l)) = omega arith
+
+module _ {s : List ℕ} {n : ℕ} (shaped : Shaped s n) (b m from : ℕ) (begin : from ≡ blockRecords * b) (few : ((m ≡ n - from) × (n - from ≤ blockRecords)) ⊎ ((m ≡ blockRecords) × (blockRecords ≤ n - from))) (inside : from < n) where
+  -- a block's records are those of the code
+  block-is : (found : Found) → found ≡ foundOf (firstBad m from (λ k. stopOk (decode (recordIn (handed s b) from k)))) → found ≡ foundOf (firstBad m from (λ k. stopOk (at (codeOf s) k)))
+  unfolding instructionAt
+  block-is found f = f ∙ ap foundOf (bad-same m from _ _ (λ k l h. ap stopOk (same k l (omega (arith, few-records few, few-left few)))))
+    where
+      same : (k : ℕ) → from ≤ k → k < from + m → decode (recordIn (handed s b) from k) ≡ at (codeOf s) k
+      same k l h =
+          ap (λ (x : ℕ). decode (recordIn (handed s b) x k)) begin ∙ ap decode (record-in s b k (omega arith) (omega (arith, few-records few, few-left few)))
+          ∙ sym (code-at shaped k (omega (arith, few-records few, few-left few)))
+
+  -- nothing is found in it: the search goes on behind it
+  pub pass-block : (found : Found) → found ≡ foundOf (firstBad m from (λ k. stopOk (decode (recordIn (handed s b) from k)))) → found ≡ Nothing
+      → firstBad (n - from) from (λ k. stopOk (at (codeOf s) k)) ≡ firstBad (n - (from + blockRecords)) (from + blockRecords) (λ k. stopOk (at (codeOf s) k))
+  unfolding firstBad
+  pass-block found f t = go few
+    where
+      clear : firstBad m from (λ k. stopOk (at (codeOf s) k)) ≡ none
+      clear = found-none _ (sym t ∙ block-is found f)
+
+      go : ((m ≡ n - from) × (n - from ≤ blockRecords)) ⊎ ((m ≡ blockRecords) × (blockRecords ≤ n - from)) → firstBad (n - from) from (λ k. stopOk (at (codeOf s) k)) ≡ firstBad (n - (from + blockRecords)) (from + blockRecords) (λ k. stopOk (at (codeOf s) k))
+      go (inl (e, l)) =
+          let rest : 0 ≡ n - (from + blockRecords) = omega arith in
+          ap (λ (x : ℕ). firstBad x from (λ k. stopOk (at (codeOf s) k))) (sym e) ∙ clear ∙ ap (λ (x : ℕ). firstBad x (from + blockRecords) (λ k. stopOk (at (codeOf s) k))) rest
+      go (inr (e, l)) =
+          let size : n - from ≡ m + (n - (from + blockRecords)) = omega arith in
+          let next : from + m ≡ from + blockRecords = omega arith in
+          ap (λ (x : ℕ). firstBad x from (λ k. stopOk (at (codeOf s) k))) size ∙ bad-pass m (n - (from + blockRecords)) from _ clear
+          ∙ ap (λ (x : ℕ). firstBad (n - (from + blockRecords)) x (λ k. stopOk (at (codeOf s) k))) next
+
+  -- place p is found in it: the search ends there
+  pub stop-block : (p : ℕ) (found : Found) → found ≡ foundOf (firstBad m from (λ k. stopOk (decode (recordIn (handed s b) from k)))) → found ≡ At p
+      → found ≡ foundOf (firstBad (n - from) from (λ k. stopOk (at (codeOf s) k)))
+  stop-block p found f t =
+      let size : n - from ≡ m + (n - from - m) = omega (arith, few-left few) in
+      t ∙ sym (ap foundOf (ap (λ (x : ℕ). firstBad x from (λ k. stopOk (at (codeOf s) k))) size ∙ bad-here m (n - from - m) from p _ (found-at _ p (sym t ∙ block-is found f))))
