@@ -1,5 +1,5 @@
 -- The search of check 18, one block a turn. Assumes nothing.
-use mathlib.Core.Path.{_≡_, sym, ap, _∙_}
+use mathlib.Core.Path.{_≡_, sym, ap, ap₂, _∙_}
 use mathlib.Core.Logic.{_⊎_, inl, inr}
 use mathlib.Core.List.{List}
 use mathlib.Core.Option.{none, some}
@@ -13,17 +13,16 @@ use Rattle.base.specs.Refusals.{foundOf}
 use Rattle.base.specs.RefusalLaws.{found-at, found-none}
 use Rattle.base.specs.declared.Found.{Found}
 use Rattle.base.specs.declared.Found.the-variants.{At, Nothing}
-use Rattle.stackless_bytecode.specs.declared.Bytecode.{Bytecode}
 use Rattle.stackless_bytecode.specs.Kinds.{at, stopOk}
 use Rattle.sheet.specs.Layout.{decode, instructionAt, codeOf}
 use Rattle.sheet.specs.Shaped.{Shaped, code-at}
 use Rattle.sheet.specs.InBlock.{recordIn, handed, record-in}
 
--- the record of place k, as the code reads it
-pub record-is : (p : List ℕ) (from k : ℕ) (r : Bytecode) → let a = recordsFrom + recordBytes * (k - from) in r ≡ decode (take (a + recordBytes - a) (drop a p)) → r ≡ decode (recordIn p from k)
-record-is p from k r e =
-    let size : recordsFrom + recordBytes * (k - from) + recordBytes - (recordsFrom + recordBytes * (k - from)) ≡ recordBytes = omega arith in
-    e ∙ ap (λ (m : ℕ). decode (take m (drop (recordsFrom + recordBytes * (k - from)) p))) size
+-- the record of place k, which the code hands on from its start a
+pub record-is : (p : List ℕ) (from k a : ℕ) → a ≡ recordsFrom + recordBytes * (k - from) → take (a + recordBytes - a) (drop a p) ≡ recordIn p from k
+record-is p from k a e =
+    let size : a + recordBytes - a ≡ recordBytes = omega arith in
+    ap₂ (λ (m x : ℕ). take m (drop x p)) size e
 
 -- the lower of what is left and of a block's records
 pub few-records : {m left : ℕ} → ((m ≡ left) × (left ≤ blockRecords)) ⊎ ((m ≡ blockRecords) × (blockRecords ≤ left)) → m ≤ blockRecords

@@ -3,7 +3,7 @@ ghost use mathlib.Core.Path.{_≡_};
 ghost use mathlib.Core.Logic.{_⊎_};
 ghost use Prim.Native.Nat.{_≤_};
 ghost use lib.ListN.{length};
-ghost use Rattle.base.specs.Sizes.{blockBytes, blockRecords, maxInstructions};
+ghost use Rattle.base.specs.Sizes.{blockBytes, recordBytes, blockRecords, maxInstructions};
 ghost use Rattle.base.specs.Lists.{firstBad};
 ghost use Rattle.base.specs.Refusals.{foundOf};
 ghost use Rattle.stackless_bytecode.specs.Kinds.{at, stopOk};
@@ -16,14 +16,15 @@ use base::Found;
 use base::RECORD_BYTES;
 use base::RECORDS_FROM;
 use sheet::reader::decode;
-use stackless_bytecode::Bytecode;
 use stackless_bytecode::is_stop;
 
-// Whether one instruction is no Stop with an abort action. The operation is asked first: a Stop is rare.
-fn stop_ok(r: Bytecode) -> bool
-    ensures { λ b. ⌜ b ≡ stopOk r ⌝ }
+// Whether a record is no Stop with an abort action. Only where its operation is Stop is more of it read.
+fn stop_ok(p: &[u8]) -> bool
+    requires { ⌜ length (now p) ≡ recordBytes ⌝ }
+    ensures { λ b. ⌜ b ≡ stopOk (decode (now (p .entry))) ⌝ }
 {
-    if is_stop(r.sub) {
+    if is_stop(p[1]) {
+        let r = decode(p);
         return !r.is_flagged();
     }
     true
@@ -39,7 +40,7 @@ fn first_in(p: &[u8], from: usize, m: usize) -> Found
     while k < to {
         let a = RECORDS_FROM + RECORD_BYTES * (k - from);
         let e = a + RECORD_BYTES;
-        if !stop_ok(decode(&p[a..e])) {
+        if !stop_ok(&p[a..e]) {
             return Found::At(k);
         }
         k += 1;

@@ -1,9 +1,11 @@
 -- `first_in` meets its contract: at each turn, what the search gives from here is what it gives from the start. Assumes nothing.
 use mathlib.Core.Path.{_≡_, sym, ap, _∙_}
-use Prim.Native.Nat.{ℕ, _+_, _-_, _≤_}
+use mathlib.Core.List.{List}
+use Prim.Native.Nat.{ℕ, _+_, _-_, _*_, _≤_}
 use native.Mathlib.Omega.{arith}
 use borrow.Author.Tests.{not-true, not-false}
 use borrow.Author.Needs.{needs}
+use Rattle.base.specs.Sizes.{recordsFrom, recordBytes}
 use Rattle.base.specs.Lists.{firstBad}
 use Rattle.base.specs.SearchLaws.{bad-more, bad-stop, bad-end}
 use Rattle.base.specs.Refusals.{foundOf}
@@ -26,24 +28,30 @@ loop-holds c =
     let size : a .m ≡ a .from + a .m - a .from = omega arith in
     (omega arith, omega arith, ap (λ (n : ℕ). firstBad n (a .from) (λ j. stopOk (decode (recordIn (a .p .now) (a .from) j)))) size)
 
--- the test of the record that is read
-here : (c : tie.After-stop-ok Inv-loop μ-loop) → let a = c .before .before .before .before .before .before .args in stopOk (decode (recordIn (a .p .now) (a .from) (c .before .before .before .before .loop .k))) ≡ c .stop-ok .result
-here c =
-    let a = c .before .before .before .before .before .before .args in
-    ap stopOk (sym (record-is (a .p .now) (a .from) (c .before .before .before .before .loop .k) _ (c .before .decode .ensures))) ∙ sym (c .stop-ok .ensures)
+-- the offset of the record that is read, where it starts, and its test
+abbrev place : tie.After-stop-ok Inv-loop μ-loop → ℕ
+place c = c .before .before .before .loop .k
 
-returns : tie.Need-returns Inv-loop μ-loop
-returns c =
-    let l = c .before .before .before .before .before .loop in
+abbrev start : tie.After-stop-ok Inv-loop μ-loop → ℕ
+start c = recordsFrom + recordBytes * (c .before .before .before .loop .k - c .before .before .before .before .before .args .from)
+
+here : (c : tie.After-stop-ok Inv-loop μ-loop) → let a = c .before .before .before .before .before .args in stopOk (decode (recordIn (a .p .now) (a .from) (place c))) ≡ c .stop-ok .result
+here c =
+    let a = c .before .before .before .before .before .args in
+    ap (λ (r : List ℕ). stopOk (decode r)) (sym (record-is (a .p .now) (a .from) (place c) (start c) (omega arith))) ∙ sym (c .stop-ok .ensures)
+
+met : tie.Need-returns Inv-loop μ-loop
+met c =
+    let l = c .before .before .before .before .loop in
     sym (ap foundOf (l .inv .2 ∙ bad-stop _ (l .k) _ (search needs) (here (c .before) ∙ not-true _ (c .if1 .taken))))
 
 loop-again : tie.Need-loop-again Inv-loop μ-loop
 loop-again c =
-    let l = c .before .before .before .before .before .loop in
+    let l = c .before .before .before .before .loop in
     (omega arith, omega arith, l .inv .2 ∙ bad-more _ (l .k) _ (search needs) (here (c .before) ∙ not-false _ (c .if1 .left)))
 
-returns-2 : tie.Need-returns-2 Inv-loop μ-loop
-returns-2 c = sym (ap foundOf (c .before .loop .inv .2 ∙ bad-end _ (c .before .loop .k) _ (search needs)))
+passed : tie.Need-returns-2 Inv-loop μ-loop
+passed c = sym (ap foundOf (c .before .loop .inv .2 ∙ bad-end _ (c .before .loop .k) _ (search needs)))
 
 pub first-in-spec : {M : Type 1} → statement M
 first-in-spec =
@@ -61,9 +69,8 @@ first-in-spec =
     (λ c. search needs)
     (λ c. search needs)
     (λ c κs. search needs)
-    (λ c κs. search needs)
-    returns
+    met
     (λ c. search needs)
     (λ c. search needs)
     loop-again
-    returns-2)
+    passed)
