@@ -97,14 +97,17 @@ fn instruction(rng: &mut Rng, locals: usize, labels: &[u16], flags: bool, last: 
                 r.srcs = list(rng, locals, 1, 1);
             }
             CALL => {
-                r.sub = if last || rng.chance(12) { 18 } else { rng.below(55) as u8 };
+                r.sub = if last || rng.chance(12) { STOP } else { rng.below(55) as u8 };
                 let most = if rng.chance(3) { 8 } else { 2 };
                 r.dsts = list(rng, locals, 0, most);
                 r.srcs = list(rng, locals, 0, most);
                 r.payload = rng.number() as u32;
                 if flags && !last && locals > 0 && !labels.is_empty() && rng.chance(3) {
-                    r.one = label(rng);
-                    r.abort = Some(rng.below(locals) as u8);
+                    let (label, local) = (label(rng), rng.below(locals) as u8);
+                    // it is drawn for a Stop too, which has none, so that the sheets of a seed stay what they were
+                    if r.sub != STOP {
+                        (r.one, r.abort) = (label, Some(local));
+                    }
                 }
             }
             RET => r.srcs = list(rng, locals, 0, 3),
@@ -211,7 +214,7 @@ pub fn numbered(rng: &mut Rng) -> Sheet {
             *x = some[*x as usize % some.len()];
         }
         // the last instruction may be a Stop, and has to stay one
-        if r.kind == CALL && r.sub != 18 && (matches!(r.sub, 19 | 20) && !hides || rng.chance(6)) {
+        if r.kind == CALL && r.sub != STOP && (matches!(r.sub, 19 | 20) && !hides || rng.chance(6)) {
             r.sub = TRACE_LOCAL;
             r.payload = rng.below(64) as u32;
         }
@@ -267,8 +270,40 @@ pub fn edge(rng: &mut Rng, sheet: &Sheet) -> Option<Sheet> {
     Some(sheet)
 }
 
-/// One or two changes of a sheet's bytes, or of its code; mostly sealed again, so that later checks are met.
+/// A damaged copy of a sheet. Some have Stops with abort actions, alone or beside another damage.
 pub fn damage(rng: &mut Rng, s: &[u8]) -> Vec<u8> {
+    if !rng.chance(4) {
+        return changed(rng, s);
+    }
+    let t = stopped(rng, s);
+    if rng.chance(2) { t } else { changed(rng, &t) }
+}
+
+/// One to four instructions made Calls: mostly Stops, else one of the operations that are a Stop but for a bit or two; mostly with an abort action, whose label and local are
+/// mostly the sheet's.
+fn stopped(rng: &mut Rng, s: &[u8]) -> Vec<u8> {
+    let mut sheet = Sheet::of_bytes(s);
+    let labels = plain::labels(&sheet.code);
+    let (n, locals) = (sheet.code.len(), sheet.locals as usize);
+    for _ in 0..1 + rng.below(4) {
+        let r = &mut sheet.code[[0, n - 1, rng.below(n), rng.below(n), rng.below(n)][rng.below(5)]];
+        // a Call keeps its lists
+        if r.kind != CALL {
+            *r = Instruction { attr: r.attr, ..Instruction::new(CALL) };
+        }
+        r.sub = if rng.chance(3) { [2, 16, 17, 19, 50][rng.below(5)] } else { STOP };
+        (r.one, r.abort) = (0, None);
+        if !rng.chance(4) {
+            r.one = if labels.is_empty() || rng.chance(8) { rng.number() as u16 } else { labels[rng.below(labels.len())] as u16 };
+            let most = if locals == 0 || rng.chance(8) { 256 } else { locals };
+            r.abort = Some(rng.below(most) as u8);
+        }
+    }
+    sheet.bytes()
+}
+
+/// One or two changes of a sheet's bytes, or of its code; mostly sealed again, so that later checks are met.
+fn changed(rng: &mut Rng, s: &[u8]) -> Vec<u8> {
     if rng.chance(3) {
         return damaged_code(rng, s);
     }
