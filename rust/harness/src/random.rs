@@ -27,6 +27,7 @@ impl Rng {
     }
 }
 
+const NOT: u8 = 28;
 const TRACE_LOCAL: u8 = 48;
 
 /// What a random sheet is like.
@@ -103,10 +104,11 @@ fn instruction(rng: &mut Rng, locals: usize, labels: &[u16], flags: bool, last: 
                 r.srcs = list(rng, locals, 0, most);
                 r.payload = rng.number() as u32;
                 if flags && !last && locals > 0 && !labels.is_empty() && rng.chance(3) {
-                    let (label, local) = (label(rng), rng.below(locals) as u8);
-                    // it is drawn for a Stop too, which has none, so that the sheets of a seed stay what they were
-                    if r.sub != STOP {
-                        (r.one, r.abort) = (label, Some(local));
+                    r.one = label(rng);
+                    r.abort = Some(rng.below(locals) as u8);
+                    // a Stop has no abort action
+                    if r.sub == STOP {
+                        r.sub = NOT;
                     }
                 }
             }
@@ -167,7 +169,7 @@ pub fn lossy(rng: &mut Rng) -> Sheet {
                 PROP => r.srcs = list(rng, locals, 8, 8),
                 LOAD => r.dsts = list(rng, locals, 1, 1),
                 _ => {
-                    r.sub = 28;
+                    r.sub = NOT;
                     r.dsts = list(rng, locals, 1, 8);
                     r.srcs = list(rng, locals, 0, 8);
                 }
@@ -280,13 +282,15 @@ pub fn damage(rng: &mut Rng, s: &[u8]) -> Vec<u8> {
 }
 
 /// One to four instructions made Calls: mostly Stops, else one of the operations that are a Stop but for a bit or two; mostly with an abort action, whose label and local are
-/// mostly the sheet's.
+/// mostly the sheet's. Seldom the last of them has a flag that is none.
 fn stopped(rng: &mut Rng, s: &[u8]) -> Vec<u8> {
     let mut sheet = Sheet::of_bytes(s);
     let labels = plain::labels(&sheet.code);
     let (n, locals) = (sheet.code.len(), sheet.locals as usize);
+    let mut k = 0;
     for _ in 0..1 + rng.below(4) {
-        let r = &mut sheet.code[[0, n - 1, rng.below(n), rng.below(n), rng.below(n)][rng.below(5)]];
+        k = [0, n - 1, rng.below(n), rng.below(n), rng.below(n)][rng.below(5)];
+        let r = &mut sheet.code[k];
         // a Call keeps its lists
         if r.kind != CALL {
             *r = Instruction { attr: r.attr, ..Instruction::new(CALL) };
@@ -299,7 +303,12 @@ fn stopped(rng: &mut Rng, s: &[u8]) -> Vec<u8> {
             r.abort = Some(rng.below(most) as u8);
         }
     }
-    sheet.bytes()
+    let mut t = sheet.bytes();
+    if rng.chance(10) {
+        t[record_start(k) + 10] = 2 + rng.below(254) as u8;
+        seal(&mut t);
+    }
+    t
 }
 
 /// One or two changes of a sheet's bytes, or of its code; mostly sealed again, so that later checks are met.
@@ -368,7 +377,7 @@ fn damaged_code(rng: &mut Rng, s: &[u8]) -> Vec<u8> {
 pub fn fullest() -> Sheet {
     let mut code = vec![Instruction { one: 1, ..Instruction::new(LABEL) }];
     for k in 0..16 * 63u16 {
-        code.push(Instruction { sub: 28, one: 2, srcs: vec![(k % 63) as u8], abort: Some(63), ..Instruction::new(CALL) });
+        code.push(Instruction { sub: NOT, one: 2, srcs: vec![(k % 63) as u8], abort: Some(63), ..Instruction::new(CALL) });
     }
     let jump = Instruction { one: 1, ..Instruction::new(JUMP) };
     code.push(jump.clone());

@@ -117,7 +117,7 @@ fn features(code: &[Instruction], at: usize) -> [bool; 8] {
 fn random_sheets() {
     let mut rng = Rng::new(71);
     let (mut ways, mut met, mut refused, mut stopped) = ([0; 3], [[0; 8]; 2], 0, 0);
-    for turn in 0..3_000 {
+    for turn in 0..3_500 {
         let shape = random::shape(&mut rng);
         let sheet = if turn % 4 == 0 { random::lossy(&mut rng) } else { random::sheet(&mut rng, shape) };
         let s = sheet.bytes();
