@@ -13,8 +13,8 @@
  * Stack. The calls allocate nothing and keep nothing between calls, so that threads may call them at the same time; their arrays are on the stack.
  * A thread of SORZIBELU_STACK_BYTES is enough for every call but sorzibelu_page, which needs SORZIBELU_PAGE_STACK_BYTES:
  *
- *     check 16.1 KiB   flow 17.3 KiB   live 189.5 KiB   live_class 189.7 KiB   rewrite 205.6 KiB   renumber 45.3 KiB   label 16.2 KiB
- *     livelist 205.6 KiB   page 241.6 KiB   in_use, conditional, dying below 1 KiB
+ *     check 16.1 KiB   flow 17.3 KiB   live 187.5 KiB   live_class 187.6 KiB   rewrite 203.5 KiB   renumber 45.3 KiB   label 16.2 KiB
+ *     livelist 203.6 KiB   page 239.6 KiB   in_use, conditional, dying below 1 KiB
  */
 #ifndef SORZIBELU_H
 #define SORZIBELU_H
@@ -47,7 +47,8 @@ enum {
     SORZIBELU_ASKED_NODE = 14,     /* the asked node is not below the count */
     SORZIBELU_HIDDEN_LOCAL = 15,   /* an IsParent or WriteBack hides a local in its payload from renumber; place: its offset */
     SORZIBELU_FIRST_BLOCK = 16,    /* the number of a class set's first block is not 0 */
-    SORZIBELU_TOO_MANY_SHEETS = 17 /* a class set has more than 16 sheets */
+    SORZIBELU_TOO_MANY_SHEETS = 17,/* a class set has more than 16 sheets */
+    SORZIBELU_FLAGGED_STOP = 18    /* a Stop has an abort action, looked for behind 4 and before 5; place: its offset */
 };
 
 /* Sizes. */
@@ -65,12 +66,12 @@ enum {
 #define SORZIBELU_STACK_BYTES 262144
 #define SORZIBELU_PAGE_STACK_BYTES 524288
 
-/* Checks 1 to 8 of a sheet. Value: 0. */
+/* Checks 1 to 4, then 18, then 5 to 8 of a sheet, each over the whole of it before the next. Value: 0. */
 uint64_t sorzibelu_check(const uint8_t *sheet, size_t sheet_len);
 
 /*
- * The flow table. Value: how many blocks. Six numbers for each at the front of `table`, by offset: lower, upper, key, then up to three successor
- * keys, 1 last at an exit, 0 filling up. Refused 9 where table_len is below six a block; SORZIBELU_FLOW_NUMBERS are always enough.
+ * The flow table. Value: how many blocks. Six numbers for each at the front of `table`, by offset: lower, upper, key, then up to two successor
+ * keys, or 1 at an exit, 0 filling up: the sixth is always 0. Refused 9 where table_len is below six a block; SORZIBELU_FLOW_NUMBERS are always enough.
  */
 uint64_t sorzibelu_flow(const uint8_t *sheet, size_t sheet_len, uint16_t *table, size_t table_len);
 

@@ -1,20 +1,25 @@
 //! Random class sets: sheets laid end to end, now and then with a block that is numbered otherwise.
-use crate::{Bytes, plain, random, random::Rng};
+use crate::{
+    Bytes,
+    plain::{self, CHECKS},
+    random,
+    random::Rng,
+};
 use sorzibelu::sheet::{BLOCK, MAX_BYTES};
 
-/// Sheets by the number that live gives them alone, 0 for those that it accepts.
-pub struct Pool([Vec<Vec<u8>>; 9]);
+/// Sheets by the check that turns them away, first those that none does.
+pub struct Pool([Vec<Vec<u8>>; 1 + CHECKS.len()]);
 
 impl Pool {
-    /// So many sheets of each number, in whole blocks: random ones and damaged copies of them, of the shape that `shape` draws.
+    /// So many sheets of each sort, in whole blocks: random ones and damaged copies of them, of the shape that `shape` draws.
     pub fn new(rng: &mut Rng, each: usize, mut shape: impl FnMut(&mut Rng) -> random::Shape) -> Pool {
-        let mut all: [Vec<Vec<u8>>; 9] = Default::default();
+        let mut all: [Vec<Vec<u8>>; 1 + CHECKS.len()] = Default::default();
         while all.iter().any(|some| some.len() < each) {
             let shape = shape(rng);
             let s = random::sheet(rng, shape).bytes();
             let damaged = (0..10).map(|_| random::damage(rng, &s)).collect::<Vec<_>>();
             for s in damaged.into_iter().chain([s]).filter(|s| fits(s)) {
-                let some = &mut all[plain::check(&s).map_or_else(|(number, _)| number as usize, |()| 0)];
+                let some = &mut all[plain::check(&s).map_or_else(|(number, _)| plain::rank(number), |()| 0)];
                 if some.len() < each {
                     some.push(s);
                 }
@@ -23,9 +28,9 @@ impl Pool {
         Pool(all)
     }
 
-    /// One of them: mostly accepted, else of any number alike.
+    /// One of them: a third accepted, else of any sort alike.
     pub fn sheet(&self, rng: &mut Rng) -> &[u8] {
-        let some = &self.0[if rng.chance(3) { 0 } else { rng.below(9) }];
+        let some = &self.0[if rng.chance(3) { 0 } else { rng.below(self.0.len()) }];
         &some[rng.below(some.len())]
     }
 }

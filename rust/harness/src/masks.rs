@@ -13,10 +13,9 @@ pub use label::label;
 pub use live::{live, live_with_table};
 pub use renumber::renumber;
 pub use rewrite::rewrite;
-use sorzibelu::sheet::{record_start, ABORT, BRANCH, CALL, JUMP, RECORD, RET};
+use sorzibelu::sheet::{record_start, ABORT, BRANCH, CALL, JUMP, RECORD, RET, STOP};
 
 const MOST: usize = 1024;
-const STOP: u8 = 18;
 const DESTROY: u8 = 13;
 const IS_PARENT: u8 = 19;
 const WRITE_BACK: u8 = 20;
@@ -58,7 +57,7 @@ fn exits(r: &[u8; RECORD]) -> bool {
 fn falls(r: &[u8; RECORD]) -> bool {
     match r[0] {
         RET | ABORT | BRANCH | JUMP => false,
-        CALL => r[1] != STOP || r[10] == 1,
+        CALL => r[1] != STOP,
         _ => true,
     }
 }
@@ -71,6 +70,7 @@ mod tests {
     #[test]
     fn answers_are_the_proved_ones() {
         let mut rng = Rng::new(11);
+        let mut met = [0; 19];
         for turn in 0..4000 {
             let shape = random::shape(&mut rng);
             let mut s = random::sheet(&mut rng, shape).bytes();
@@ -78,7 +78,9 @@ mod tests {
                 s = random::damage(&mut rng, &s);
             }
             let mut targets = [[0; 2]; 1024];
-            assert_eq!(check(&s).map_err(|f| (f.number(), f.place())), super::check::<false>(&s, &mut targets).map(|_| ()));
+            let proved = check(&s).map_err(|f| (f.number(), f.place()));
+            met[proved.map_or_else(|(number, _)| number as usize, |()| 0)] += 1;
+            assert_eq!(proved, super::check::<false>(&s, &mut targets).map(|_| ()));
             let (mut a, mut b) = (vec![7; 6 * 1024], vec![7; 6 * 1024]);
             assert_eq!(flow(&s, &mut a).map_err(|f| (f.number(), f.place())), super::flow(&s, &mut b));
             assert_eq!(a, b);
@@ -92,12 +94,13 @@ mod tests {
             assert_eq!(rewrite(&s, &mut a).map_err(|f| (f.number(), f.place())), super::rewrite(&s, &mut b));
             assert_eq!(a, b);
         }
+        assert!(plain::CHECKS.iter().all(|number| met[*number as usize] > 10) && met[18] > 100, "{met:?}");
     }
 
     #[test]
     fn renumbered_as_the_proved_call_does() {
         let mut rng = Rng::new(12);
-        let mut met = [0; 16];
+        let mut met = [0; 19];
         for turn in 0..4000 {
             let shape = random::shape(&mut rng);
             let mut s = if turn % 2 == 0 { random::numbered(&mut rng) } else { random::sheet(&mut rng, shape) }.bytes();
@@ -112,7 +115,7 @@ mod tests {
             assert_eq!(proved, super::renumber(&s, &mut b));
             assert_eq!(a, b);
         }
-        assert!(met[0] > 1000 && met[9] > 100 && met[15] > 100, "{met:?}");
+        assert!(met[0] > 1000 && [9, 15, 18].iter().all(|number| met[*number] > 100), "{met:?}");
     }
 
     #[test]

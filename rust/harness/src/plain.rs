@@ -7,7 +7,7 @@ mod live;
 mod renumber;
 mod rewrite;
 
-pub use check::check;
+pub use check::{CHECKS, check, rank};
 pub use class::{Alone, Class, SHEET_NUMBERS, SHEET_SETS, alone, cut, lay_out, live_class, sheets};
 pub use graphs::{check_graphs, conditional, dying, in_use};
 pub use label::{label, labels, lookup, never_named, packed};

@@ -27,6 +27,7 @@ impl Rng {
     }
 }
 
+const NOT: u8 = 28;
 const TRACE_LOCAL: u8 = 48;
 
 /// What a random sheet is like.
@@ -97,7 +98,7 @@ fn instruction(rng: &mut Rng, locals: usize, labels: &[u16], flags: bool, last: 
                 r.srcs = list(rng, locals, 1, 1);
             }
             CALL => {
-                r.sub = if last || rng.chance(12) { 18 } else { rng.below(55) as u8 };
+                r.sub = if last || rng.chance(12) { STOP } else { rng.below(55) as u8 };
                 let most = if rng.chance(3) { 8 } else { 2 };
                 r.dsts = list(rng, locals, 0, most);
                 r.srcs = list(rng, locals, 0, most);
@@ -105,6 +106,10 @@ fn instruction(rng: &mut Rng, locals: usize, labels: &[u16], flags: bool, last: 
                 if flags && !last && locals > 0 && !labels.is_empty() && rng.chance(3) {
                     r.one = label(rng);
                     r.abort = Some(rng.below(locals) as u8);
+                    // a Stop has no abort action
+                    if r.sub == STOP {
+                        r.sub = NOT;
+                    }
                 }
             }
             RET => r.srcs = list(rng, locals, 0, 3),
@@ -164,7 +169,7 @@ pub fn lossy(rng: &mut Rng) -> Sheet {
                 PROP => r.srcs = list(rng, locals, 8, 8),
                 LOAD => r.dsts = list(rng, locals, 1, 1),
                 _ => {
-                    r.sub = 28;
+                    r.sub = NOT;
                     r.dsts = list(rng, locals, 1, 8);
                     r.srcs = list(rng, locals, 0, 8);
                 }
@@ -211,7 +216,7 @@ pub fn numbered(rng: &mut Rng) -> Sheet {
             *x = some[*x as usize % some.len()];
         }
         // the last instruction may be a Stop, and has to stay one
-        if r.kind == CALL && r.sub != 18 && (matches!(r.sub, 19 | 20) && !hides || rng.chance(6)) {
+        if r.kind == CALL && r.sub != STOP && (matches!(r.sub, 19 | 20) && !hides || rng.chance(6)) {
             r.sub = TRACE_LOCAL;
             r.payload = rng.below(64) as u32;
         }
@@ -267,8 +272,47 @@ pub fn edge(rng: &mut Rng, sheet: &Sheet) -> Option<Sheet> {
     Some(sheet)
 }
 
-/// One or two changes of a sheet's bytes, or of its code; mostly sealed again, so that later checks are met.
+/// A damaged copy of a sheet. Some have Stops with abort actions, alone or beside another damage.
 pub fn damage(rng: &mut Rng, s: &[u8]) -> Vec<u8> {
+    if !rng.chance(4) {
+        return changed(rng, s);
+    }
+    let t = stopped(rng, s);
+    if rng.chance(2) { t } else { changed(rng, &t) }
+}
+
+/// One to four instructions made Calls: mostly Stops, else one of the operations that are a Stop but for a bit or two; mostly with an abort action, whose label and local are
+/// mostly the sheet's. Seldom the last of them has a flag that is none.
+fn stopped(rng: &mut Rng, s: &[u8]) -> Vec<u8> {
+    let mut sheet = Sheet::of_bytes(s);
+    let labels = plain::labels(&sheet.code);
+    let (n, locals) = (sheet.code.len(), sheet.locals as usize);
+    let mut k = 0;
+    for _ in 0..1 + rng.below(4) {
+        k = [0, n - 1, rng.below(n), rng.below(n), rng.below(n)][rng.below(5)];
+        let r = &mut sheet.code[k];
+        // a Call keeps its lists
+        if r.kind != CALL {
+            *r = Instruction { attr: r.attr, ..Instruction::new(CALL) };
+        }
+        r.sub = if rng.chance(3) { [2, 16, 17, 19, 50][rng.below(5)] } else { STOP };
+        (r.one, r.abort) = (0, None);
+        if !rng.chance(4) {
+            r.one = if labels.is_empty() || rng.chance(8) { rng.number() as u16 } else { labels[rng.below(labels.len())] as u16 };
+            let most = if locals == 0 || rng.chance(8) { 256 } else { locals };
+            r.abort = Some(rng.below(most) as u8);
+        }
+    }
+    let mut t = sheet.bytes();
+    if rng.chance(10) {
+        t[record_start(k) + 10] = 2 + rng.below(254) as u8;
+        seal(&mut t);
+    }
+    t
+}
+
+/// One or two changes of a sheet's bytes, or of its code; mostly sealed again, so that later checks are met.
+fn changed(rng: &mut Rng, s: &[u8]) -> Vec<u8> {
     if rng.chance(3) {
         return damaged_code(rng, s);
     }
@@ -333,7 +377,7 @@ fn damaged_code(rng: &mut Rng, s: &[u8]) -> Vec<u8> {
 pub fn fullest() -> Sheet {
     let mut code = vec![Instruction { one: 1, ..Instruction::new(LABEL) }];
     for k in 0..16 * 63u16 {
-        code.push(Instruction { sub: 28, one: 2, srcs: vec![(k % 63) as u8], abort: Some(63), ..Instruction::new(CALL) });
+        code.push(Instruction { sub: NOT, one: 2, srcs: vec![(k % 63) as u8], abort: Some(63), ..Instruction::new(CALL) });
     }
     let jump = Instruction { one: 1, ..Instruction::new(JUMP) };
     code.push(jump.clone());

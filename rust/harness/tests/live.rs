@@ -1,6 +1,11 @@
 //! Flow and live against the plain reading: random sheets, buffers exact, short and long with guard bytes.
-use harness::{plain, random, random::Rng, Bytes};
-use sorzibelu::{check, flow, live, Refusal};
+use harness::{
+    plain::{self, rank},
+    random,
+    random::Rng,
+    Bytes,
+};
+use sorzibelu::{check, flow, live, text, Refusal};
 
 const SHORT: Result<u32, Refusal> = Err(Refusal::ShortOutput);
 
@@ -17,6 +22,8 @@ fn random_sheets() {
         assert_eq!(flow(&s, &mut out), Ok(table.len() as u32 / 6));
         assert_eq!(out[..table.len()], table);
         assert!(out[table.len()..].iter().all(|x| *x == 7));
+        // one successor key or two, or 1 alone at an exit
+        assert!(out[..table.len()].chunks(6).all(|row| row[3] != 0 && row[5] == 0 && (row[3] != 1 || row[4] == 0) && row[4] != 1), "{}", text::list(&sheet));
         let mut out = vec![7u16; table.len() - 1];
         assert_eq!(flow(&s, &mut out), SHORT);
         assert!(out.iter().all(|x| *x == 7));
@@ -36,18 +43,21 @@ fn random_sheets() {
 #[test]
 fn refused_sheets_change_nothing() {
     let mut rng = Rng::new(5);
+    let mut met = [0; 10];
     for _ in 0..300 {
         let shape = random::shape(&mut rng);
         let s = random::sheet(&mut rng, shape).bytes();
         for _ in 0..10 {
             let t = random::damage(&mut rng, &s);
             let Err(r) = check(&t) else { continue };
+            met[rank(r.number())] += 1;
             let (mut table, mut sets) = (vec![7u16; rng.below(7000)], vec![7u8; rng.below(17000)]);
             assert_eq!(flow(&t, &mut table), Err(r));
             assert_eq!(live(&t, &mut sets), Err(r));
             assert!(table.iter().all(|x| *x == 7) && sets.iter().all(|x| *x == 7));
         }
     }
+    assert!(met[1..].iter().all(|m| *m > 5) && met[rank(18)] >= 100, "{met:?}");
 }
 
 #[test]

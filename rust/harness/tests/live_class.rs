@@ -33,12 +33,14 @@ fn numbers(class: &[u8]) -> Result<Vec<[u32; 3]>, (u16, u16)> {
 /// The worked sheets end to end; a refused one between them; the same sheet twice.
 #[test]
 fn worked_sheets() {
-    let [m1, m2, m3, m6, kind12] = ["m1", "m2", "m3", "m6", "kind12"].map(|m| stored(&format!("{m}.sheet")));
+    let [m1, m2, m3, m6, kind12, stop] = ["m1", "m2", "m3", "m6", "kind12", "stop"].map(|m| stored(&format!("{m}.sheet")));
     assert_eq!(stored("class.sheets"), [&m1[..], &m2, &kind12, &m3, &m6].concat());
     assert_eq!(numbers(&stored("class.sheets")), Ok(vec![[0, 0, 3], [0, 0, 7], [4, 0, 0], [0, 0, 7], [0, 0, 6]]));
     assert_eq!(numbers(&[&m2[..], &m2].concat()), Ok(vec![[0, 0, 7]; 2]));
     assert_eq!(numbers(&m1), Ok(vec![[0, 0, 3]]));
     assert_eq!(numbers(&kind12.repeat(16)), Ok(vec![[4, 0, 0]; 16]));
+    assert_eq!(numbers(&[&m1[..], &stop, &kind12, &m2, &stop].concat()), Ok(vec![[0, 0, 3], [18, 3, 0], [4, 0, 0], [0, 0, 7], [18, 3, 0]]));
+    assert_eq!(numbers(&stop.repeat(16)), Ok(vec![[18, 3, 0]; 16]));
 }
 
 /// A heading's number that is not 0 glues its sheet onto the one before it; the first one's is 16. A later block that is numbered 0 cuts its sheet in two.
@@ -141,10 +143,10 @@ fn limits() {
 fn random_class_sets() {
     let mut rng = Rng::new(81);
     let pool = Pool::new(&mut rng, 40, random::shape);
-    // how often sheet k got each number; 1, 9, 16 and 17 of the whole, 9 by bytes and by numbers alone; what else was met
-    let (mut at, mut whole, mut short) = ([[0; 9]; 16], [0; 18], [0; 3]);
+    // how often sheet k was accepted and got each number; 1, 9, 16 and 17 of the whole, 9 by bytes and by numbers alone; what else was met
+    let (mut at, mut whole, mut short) = ([[0; 10]; 16], [0; 18], [0; 3]);
     let (mut glued, mut cut, mut sixteen) = (0, 0, 0);
-    for turn in 0..900 {
+    for turn in 0..1_400 {
         let count = classes::count(&mut rng);
         let class = classes::class(&mut rng, count, |rng| pool.sheet(rng));
         let sheets = plain::cut(&class).map_or(0, |sheets| sheets.len());
@@ -166,7 +168,7 @@ fn random_class_sets() {
                     let mut sets = vec![7; SHEET_SETS];
                     let alone = live(sheet, &mut sets).map_err(|r| (r.number(), r.place()));
                     assert_eq!(alone.map(|taken| (sets[..got.as_ref().map_or(0, |g| g.0.len())].to_vec(), taken)), *got);
-                    at[k][got.as_ref().map_or_else(|r| r.0 as usize, |_| 0)] += 1;
+                    at[k][got.as_ref().map_or_else(|r| plain::rank(r.0), |_| 0)] += 1;
                 }
             }
         }

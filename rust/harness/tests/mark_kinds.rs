@@ -37,8 +37,11 @@ fn words_of_flow_marks() {
         ("0 1 2 2 3\n1 1 3 1", &["line 3: no block starts at 1", "2 to 3: key 3, leads to 1", "blocks: 2"]),
         ("0 1 2 2 3\n0 1 2 2 3\n2 3 3 1\nblocks 2\nblocks 2", &["line 3: the block that starts at 0 was answered in line 2, which counts", "line 6: blocks was answered in line 5, which counts"]),
         ("0 1 2 2 3\n2 3 3 1\nblocks 2\nrefused 1 0", &["line 5: the sheet is not refused"]),
+        // a third successor is read, and is one too many
+        ("0 1 2 2 3 1\n2 3 3 1\nblocks 2", &["block at 0, leads to: 1 should not be there"]),
+        ("0 1 2 2 3 0\n2 3 3 1 0 0\nblocks 2", &[]),
         ("0 1\n2 3 3 one\nblocks two", &[
-            "line 2: 2 numbers where lower, upper, key and up to three successors should stand",
+            "line 2: 2 numbers where lower, upper, key and up to two successors should stand",
             "line 3: 'one': a line is 'LOWER to UPPER: key KEY, leads to KEYS' or 'blocks COUNT'",
             "line 4: 'two' is no number",
             "0 to 1: key 2, leads to 2 3",
@@ -282,6 +285,13 @@ fn refusals() {
             assert_eq!(said(&report), says, "{answer}");
             assert_eq!(report.all_right(), says.is_empty());
         }
+    }
+    for kind in [Kind::Live, Kind::Flow, Kind::Rewritten] {
+        let marked = |answer: &str| question("stop").mark(answer.as_bytes(), Some(kind)).unwrap();
+        assert!(marked("refused 18 3").all_right());
+        let wrong = marked("refused 18 1");
+        assert_eq!(said(&wrong), ["refused 18 1 should be refused 18 3"]);
+        assert_eq!(wrong.findings[0].why, "offset 3: the Stop has the abort action 'abort L1 into t1' and should have none");
     }
     let twelve = Question::pair(&Owned::new(3, &[], &[]), &Owned { nodes: 65, ..Default::default() });
     assert!(mark(&twelve, "refused 12 1").all_right());

@@ -10,7 +10,7 @@ use std::{
 #[test]
 fn stored_pages() {
     let dir = concat!(env!("CARGO_MANIFEST_DIR"), "/../../sheets/");
-    for m in ["m1", "m2", "m3", "m4", "m5", "m6", "unnamed", "kind12"] {
+    for m in ["m1", "m2", "m3", "m4", "m5", "m6", "unnamed", "kind12", "stop"] {
         let sheet = fs::read(format!("{dir}{m}.sheet")).unwrap();
         assert_eq!(page(&sheet), fs::read_to_string(format!("{dir}{m}.page")).unwrap(), "{m}");
     }

@@ -117,8 +117,11 @@ fn refusals_and_their_order() {
         ("nop\nt0 <- call WriteBack t1 #4294967295\nret", 15, 1),
         ("call WriteBack t1 abort L1 into t0\nlabel L1\nret", 15, 0),
         ("ret\ncall IsParent #1\nret", 15, 1),
-        // 4 to 8 come before it
+        // 4, 18 and 5 to 8 come before it, in this order
         ("call IsParent\nraw kind 12\nret", 4, 1),
+        ("call IsParent\ncall Stop abort L1 into t0\nraw kind 12\nlabel L1\nret", 4, 2),
+        ("call IsParent\ncall Stop abort L1 into t0\nlabel L1\nret", 18, 1),
+        ("label L1\ncall WriteBack\nret t2\ncall Stop abort L1 into t0\ncall Stop abort L1 into t0", 18, 3),
         ("call IsParent\nret t2", 5, 1),
         ("call IsParent\nlabel L1\nlabel L1\nret", 6, 2),
         ("call IsParent\njump L1", 7, 1),
@@ -196,7 +199,7 @@ fn features(s: &Sheet) -> [bool; 8] {
 #[test]
 fn random_sheets() {
     let mut rng = Rng::new(61);
-    let (mut met, mut refused, mut changed, mut seen) = ([0; 8], 0, 0, 0);
+    let (mut met, mut refused, mut stopped, mut changed, mut seen) = ([0; 8], 0, 0, 0, 0);
     for turn in 0..3_000 {
         let shape = random::shape(&mut rng);
         let sheet = match turn % 4 {
@@ -227,8 +230,9 @@ fn random_sheets() {
         }
         let t = random::damage(&mut rng, &s);
         if let Err(r) = plain::check(&t) {
+            stopped += usize::from(r.0 == 18);
             assert_eq!(renumbered(&t, rng.below(40_000)), Err(r));
         }
     }
-    assert!(met.iter().all(|m| *m > 100) && refused > 100 && changed > seen / 3, "{met:?} {refused} {changed} of {seen}");
+    assert!(met.iter().all(|m| *m > 100) && refused > 100 && stopped > 100 && changed > seen / 3, "{met:?} {refused} {stopped} {changed} of {seen}");
 }

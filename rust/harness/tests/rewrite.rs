@@ -106,6 +106,18 @@ fn edges_of_9_10_and_11() {
         assert_eq!(n(rewritten(&s, MAX_BYTES - 1)), Err((9, 0)));
         assert_eq!(n(rewritten(&s, 0)), Err((9, 0)));
     }
+    // 18 before 9, 10 and 11
+    let stopped = |s: &[u8]| {
+        let mut sheet = Sheet::of_bytes(s);
+        let n = sheet.code.len();
+        sheet.code[n - 1] = Instruction { sub: STOP, one: 1, abort: Some(0), attr: sheet.code[n - 1].attr, ..Instruction::new(CALL) };
+        (sheet.bytes(), n as u16 - 1)
+    };
+    for (s, at) in [moved(65_535, 5, 0), moved(2, 5, 1_016)].map(|s| stopped(&s)) {
+        for room in [0, MAX_BYTES - 1, MAX_BYTES] {
+            assert_eq!(rewritten(&s, room), Err((18, at)));
+        }
+    }
     // the highest of both, and no new block
     let s = text::assemble("locals 1 user 0 parameters 0 references t0\nlabel L65535 @65535\nbranch L65535 L65535 on t0\n").unwrap().bytes();
     assert_eq!(rewritten(&s, MAX_BYTES), Ok(s.clone()));
@@ -138,7 +150,7 @@ fn smallest_sheets_for_10_and_11() {
 #[test]
 fn random_sheets() {
     let mut rng = Rng::new(6);
-    let mut met = [0; 12];
+    let mut met = [0; 19];
     for _ in 0..1_500 {
         let shape = random::shape(&mut rng);
         let sheet = if rng.chance(2) { random::lossy(&mut rng) } else { random::sheet(&mut rng, shape) };
@@ -154,10 +166,11 @@ fn random_sheets() {
         }
         let t = random::damage(&mut rng, &sheet.bytes());
         if let Err(r) = plain::check(&t) {
+            met[r.0 as usize] += 1;
             assert_eq!(rewritten(&t, rng.below(40_000)), Err(r));
         }
     }
-    assert!(met[0] > 500 && met[10] > 50 && met[11] > 50, "{met:?}");
+    assert!(met[0] > 500 && [10, 11, 18].iter().all(|number| met[*number] > 50), "{met:?}");
 }
 
 #[test]
@@ -182,6 +195,10 @@ fn what_a_refusal_says() {
         (13, 1_000, "refused 13 1000: graph 2, triple 0: "),
         (14, 0, "refused 14 0: the asked node"),
         (15, 7, "refused 15 7: offset 7: an IsParent or WriteBack hides a local"),
+        (16, 0, "refused 16 0: the number of the first block is not 0"),
+        (17, 0, "refused 17 0: a class set has more than 16 sheets"),
+        (18, 7, "refused 18 7: offset 7: a Stop has an abort action"),
+        (19, 7, "refused 19 7: a number that this version does not know"),
     ] {
         let said = Refusal::of(number, place).to_string();
         assert!(said.starts_with(says), "{said}");

@@ -1,5 +1,5 @@
 //! The text form: an exact round trip, and a line number for every error.
-use harness::{random, random::Rng, Bytes};
+use harness::{plain, random, random::Rng, Bytes};
 use sorzibelu::{check, sheet::*, text};
 
 #[test]
@@ -119,7 +119,7 @@ fn fields_in_any_order() {
 #[test]
 fn raw_round_trip() {
     let mut rng = Rng::new(12);
-    let mut refused = [0; 9];
+    let mut refused = [0; 10];
     for i in 0..3_000 {
         let shape = random::shape(&mut rng);
         let sheet = random::sheet(&mut rng, shape);
@@ -141,7 +141,7 @@ fn raw_round_trip() {
         let again = text::read(&listed).unwrap_or_else(|f| panic!("{f}\n{listed}"));
         assert!(again.bytes == bytes, "{listed}");
         if let Err(r) = check(&bytes) {
-            refused[r.number() as usize] += 1;
+            refused[plain::rank(r.number())] += 1;
         }
     }
     assert!(refused[1..].iter().all(|n| *n > 3), "{refused:?}");
@@ -168,6 +168,8 @@ fn refusals_as_text() {
         (format!("{head}\nret\nraw kind 2 sub 1\n"), 4, 1, 3),
         (format!("{head} count 1\nret\nnop\n"), 4, 1, 3),
         (format!("{head}\nraw kind 8 destinations 0 t1\nret\n"), 4, 0, 2),
+        (format!("{head}\nlabel L1\n\ncall Stop abort L1 into t0\nret\n"), 18, 1, 4),
+        (format!("{head}\nret t1\nraw kind 1 sub 18 one L7 flag 1 into t9 @3\nnop\n"), 18, 1, 3),
         (format!("{head}\nnop\nret t1\n"), 5, 1, 3),
         (format!("{head}\nlabel L1\nlabel L1\nret\n"), 6, 1, 3),
         (format!("{head}\njump L1\n"), 7, 0, 2),
@@ -201,11 +203,13 @@ fn refusals_as_text() {
 }
 
 #[test]
-fn kind12_has_a_text() {
+fn refused_sheets_have_texts() {
     let dir = concat!(env!("CARGO_MANIFEST_DIR"), "/../../sheets/");
-    let (bytes, text) = (std::fs::read(format!("{dir}kind12.sheet")).unwrap(), std::fs::read_to_string(format!("{dir}kind12.txt")).unwrap());
-    assert_eq!(text::read(&text).unwrap().bytes, bytes);
-    assert!(text.ends_with(&text::list_raw(&bytes)));
+    for name in ["kind12", "stop"] {
+        let (bytes, text) = (std::fs::read(format!("{dir}{name}.sheet")).unwrap(), std::fs::read_to_string(format!("{dir}{name}.txt")).unwrap());
+        assert_eq!(text::read(&text).unwrap().bytes, bytes);
+        assert!(text.ends_with(&text::list_raw(&bytes)));
+    }
 }
 
 /// Any file gives faults in no time, and few lines of them.

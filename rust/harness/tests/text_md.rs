@@ -86,7 +86,7 @@ fn refusals() {
         assert_eq!(check(&bytes).is_ok(), row[0].ends_with(", of renumber alone"));
         assert_eq!(Some(&refused.number().to_string()[..]), row[0].split(',').next(), "{text}");
     }
-    assert_eq!(rows.len(), 9);
+    assert_eq!(rows.len(), 10);
 }
 
 #[test]

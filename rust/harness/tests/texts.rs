@@ -32,7 +32,7 @@ fn compare(s: &[u8], more: usize) {
 #[test]
 fn stored_sheets() {
     let dir = concat!(env!("CARGO_MANIFEST_DIR"), "/../../sheets/");
-    for m in ["m1", "m2", "m3", "m4", "m5", "m6", "unnamed", "kind12"] {
+    for m in ["m1", "m2", "m3", "m4", "m5", "m6", "unnamed", "kind12", "stop"] {
         let s = fs::read(format!("{dir}{m}.sheet")).unwrap();
         assert_eq!(written(proved_page, &s, PAGE_BYTES).unwrap(), fs::read_to_string(format!("{dir}{m}.page")).unwrap(), "{m}");
         compare(&s, 0);

@@ -40,7 +40,7 @@ fn values_are_what_was_lent() {
 fn values_of_class_sets() {
     let mut rng = Rng::new(25);
     let pool = classes::Pool::new(&mut rng, 10, random::shape);
-    let mut refused = [0; 18];
+    let mut refused = [0; 19];
     for _ in 0..200 {
         let count = classes::count(&mut rng);
         let class = classes::class(&mut rng, count, |rng| pool.sheet(rng));
@@ -55,7 +55,7 @@ fn values_of_class_sets() {
                 assert!(!is_general(r, &said) && said.lines().count() == 1, "{r}: {said}");
             }
         }
-        (0..18).for_each(|number| drop(class_why(&class, Refusal::of(number, rng.number() as u16))));
+        (0..20).for_each(|number| drop(class_why(&class, Refusal::of(number, rng.number() as u16))));
     }
     assert!([1, 16, 17].iter().all(|number| refused[*number] > 5), "{refused:?}");
     // blocks in front of the first that is numbered 0, and a rest that is no whole block
@@ -94,18 +94,18 @@ fn is_general(refusal: Refusal, said: &str) -> bool {
 #[test]
 fn every_refused_sheet_has_its_own_words() {
     let mut rng = Rng::new(23);
-    let mut met = [0; 9];
+    let mut met = [0; 10];
     for _ in 0..600 {
         let shape = random::shape(&mut rng);
         let s = random::sheet(&mut rng, shape).bytes();
         for _ in 0..10 {
             let t = random::damage(&mut rng, &s);
             if let Err(r) = check(&t) {
-                met[r.number() as usize] += 1;
+                met[plain::rank(r.number())] += 1;
                 let said = why(&t, r);
                 assert!(!is_general(r, &said) && said.lines().count() == 1, "{r}: {said}");
                 // and any other refusal of the same bytes is answered somehow
-                (0..18).for_each(|number| drop(why(&t, Refusal::of(number, rng.number() as u16))));
+                (0..20).for_each(|number| drop(why(&t, Refusal::of(number, rng.number() as u16))));
             }
         }
     }
@@ -134,7 +134,7 @@ fn every_refused_graph_has_its_own_words() {
             met[r.number() as usize] += 1;
             let said = graph::why(graphs, node, r);
             assert!(!is_general(r, &said) && said.lines().count() == 1, "{r}: {said}");
-            (0..18).for_each(|number| drop(graph::why(graphs, node, Refusal::of(number, rng.number() as u16))));
+            (0..20).for_each(|number| drop(graph::why(graphs, node, Refusal::of(number, rng.number() as u16))));
         }
     }
     assert!(met[12..].iter().all(|n| *n > 50), "{met:?}");

@@ -15,7 +15,7 @@ fn lent<T>(sheet: &[u8], out: &mut [T], call: unsafe extern "C" fn(*const u8, us
     unpack(unsafe { call(sheet.as_ptr(), sheet.len(), out.as_mut_ptr(), out.len()) })
 }
 
-/// Checks 1 to 8 of a sheet.
+/// Checks 1 to 4, then 18, then 5 to 8 of a sheet, each over the whole of it before the next.
 ///
 /// ```
 /// use sorzibelu::{check, Refusal};
@@ -29,7 +29,8 @@ pub fn check(sheet: &[u8]) -> Result<(), Refusal> {
     unpack(unsafe { ffi::sorzibelu_check(sheet.as_ptr(), sheet.len()) }).map(|_| ())
 }
 
-/// The flow table: how many blocks, and six numbers for each at the front of `table`: lower, upper, key, and three successor keys, 0 filling up.
+/// The flow table: how many blocks, and six numbers for each at the front of `table`: lower, upper, key, up to two successor keys or 1 at an exit, 0 filling up, so that
+/// the sixth is always 0.
 /// [`FLOW_NUMBERS`](crate::FLOW_NUMBERS) are always enough.
 ///
 /// ```
@@ -130,7 +131,7 @@ pub enum Lookup {
     Undefined,
 }
 
-/// The lookup of a label: of any number, in a sheet that checks 1 to 8 accept.
+/// The lookup of a label: of any number, in a sheet that [`check`] accepts.
 ///
 /// ```
 /// use sorzibelu::{label, Lookup, Refusal};

@@ -25,9 +25,9 @@
 //! The calls allocate nothing: their arrays are on the stack. A thread of [`STACK_BYTES`] is enough for every call but [`page`], and one of
 //! [`PAGE_STACK_BYTES`] for that; the main thread and the threads of `std` have more.
 //!
-//! | check | flow | live | live class | rewrite | renumber | label | livelist | page | dying | in use, conditional |
-//! |---|---|---|---|---|---|---|---|---|---|---|
-//! | 16.1 KiB | 17.3 KiB | 189.5 KiB | 189.7 KiB | 205.6 KiB | 45.3 KiB | 16.2 KiB | 205.6 KiB | 241.6 KiB | 9.3 KiB | below 1 KiB |
+//! | check | flow | live | live class | rewrite | renumber | label | livelist | page | in use, conditional, dying |
+//! |---|---|---|---|---|---|---|---|---|---|
+//! | 16.1 KiB | 17.3 KiB | 187.5 KiB | 187.6 KiB | 203.5 KiB | 45.3 KiB | 16.2 KiB | 203.6 KiB | 239.6 KiB | below 1 KiB |
 #![warn(missing_docs)]
 mod calls;
 mod ffi;

@@ -14,7 +14,7 @@ pub struct Block {
     pub upper: u16,
     /// Its key, from 2.
     pub key: u16,
-    /// The keys that it leads to, 1 last at an exit, 0 filling up.
+    /// The keys that it leads to, two at most, or 1 at an exit; 0 filling up, so that the last is always 0.
     pub next: [u16; 3],
 }
 

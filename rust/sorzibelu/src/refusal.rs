@@ -39,6 +39,8 @@ pub enum Refusal {
     FirstBlock,
     /// 17: a class set has more than 16 sheets.
     TooManySheets,
+    /// 18: the Stop has an abort action; looked for behind 4 and before 5.
+    FlaggedStop(u16),
     /// A number that this version does not know, and its place: the archive is newer than the crate.
     Other(u16, u16),
 }
@@ -66,6 +68,7 @@ impl Refusal {
             15 => HiddenLocal(place),
             16 => FirstBlock,
             17 => TooManySheets,
+            18 => FlaggedStop(place),
             _ => Other(number, place),
         }
     }
@@ -90,6 +93,7 @@ impl Refusal {
             HiddenLocal(_) => 15,
             FirstBlock => 16,
             TooManySheets => 17,
+            FlaggedStop(_) => 18,
             Other(number, _) => number,
         }
     }
@@ -98,7 +102,7 @@ impl Refusal {
     pub fn place(self) -> u16 {
         match self {
             Length | Heading | ShortOutput | NumbersRunOut | CodeTooLong | AskedNode | FirstBlock | TooManySheets => 0,
-            Block(p) | Record(p) | Local(p) | RepeatedLabel(p) | MissingLabel(p) | FallsPastEnd(p) | Nodes(p) | Triple(p) | HiddenLocal(p) => p,
+            Block(p) | Record(p) | Local(p) | RepeatedLabel(p) | MissingLabel(p) | FallsPastEnd(p) | Nodes(p) | Triple(p) | HiddenLocal(p) | FlaggedStop(p) => p,
             Other(_, place) => place,
         }
     }
@@ -127,6 +131,7 @@ impl fmt::Display for Refusal {
             HiddenLocal(p) => write!(f, "offset {p}: an IsParent or WriteBack hides a local in its payload, where renumbering does not reach it"),
             FirstBlock => write!(f, "the number of the first block is not 0"),
             TooManySheets => write!(f, "a class set has more than 16 sheets"),
+            FlaggedStop(p) => write!(f, "offset {p}: a Stop has an abort action"),
             Other(..) => write!(f, "a number that this version does not know"),
         }
     }

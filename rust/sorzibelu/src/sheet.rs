@@ -25,7 +25,7 @@ pub const MAX_BYTES: usize = MAX_SHEET_BYTES;
 
 /// Kind Assign: sub 0 Copy, 1 Move, 2 Store; one destination, one source.
 pub const ASSIGN: u8 = 0;
-/// Kind Call: sub is the operation's place in `Operation`; both lists, payload; with an abort action also label one and the abort local.
+/// Kind Call: sub is the operation's place in `Operation`; both lists, payload; with an abort action, which a Stop may not have, also label one and the abort local.
 pub const CALL: u8 = 1;
 /// Kind Ret: sources.
 pub const RET: u8 = 2;
@@ -47,6 +47,9 @@ pub const SAVE_MEM: u8 = 9;
 pub const SAVE_SPEC_VAR: u8 = 10;
 /// Kind Prop: sub 0 to 2, sources (the locals that its expression uses), payload.
 pub const PROP: u8 = 11;
+
+/// The sub of the Call that ends a function: the operation Stop.
+pub const STOP: u8 = 18;
 
 /// One instruction.
 #[derive(Clone, Debug, Default, PartialEq, Eq)]

@@ -20,9 +20,10 @@ pub fn sheet(bytes: &[u8], refusal: Refusal) -> String {
         Refusal::Local(k) => record_at(bytes, k).and_then(|r| local(r, locals(bytes))).map(|w| format!("offset {k}: {w}")),
         Refusal::RepeatedLabel(k) => record_at(bytes, k).and_then(|r| repeated(bytes, r, k)).map(|w| format!("offset {k}: {w}")),
         Refusal::MissingLabel(k) => record_at(bytes, k).and_then(|r| missing(bytes, r)).map(|w| format!("offset {k}: {w}")),
-        Refusal::FallsPastEnd(k) => record_at(bytes, k).map(|r| format!("offset {k}: {} is the last instruction and can fall past the end", named(r))),
+        Refusal::FallsPastEnd(k) => record_at(bytes, k).map(|r| format!("offset {k}: {} is the last instruction and can fall past the end", a_kind(r))),
         Refusal::NumbersRunOut => Some(numbers(bytes)),
         Refusal::HiddenLocal(k) => record_at(bytes, k).and_then(hidden).map(|w| format!("offset {k}: {w}")),
+        Refusal::FlaggedStop(k) => record_at(bytes, k).and_then(flagged_stop).map(|w| format!("offset {k}: {w}")),
         _ => None,
     };
     said.unwrap_or_else(|| general(refusal))
@@ -119,14 +120,6 @@ fn kind(r: &[u8; RECORD]) -> &'static str {
 /// The kind with its article.
 fn a_kind(r: &[u8; RECORD]) -> String {
     format!("{} {}", if matches!(r[0], ASSIGN | ABORT) { "an" } else { "a" }, kind(r))
-}
-
-/// The last instruction, with its article.
-fn named(r: &[u8; RECORD]) -> String {
-    match (r[0], r[1], r[10]) {
-        (CALL, 18, 1) => "a Stop with an abort action".into(),
-        _ => a_kind(r),
-    }
 }
 
 // ---- the checks
@@ -275,6 +268,11 @@ fn hidden(r: &[u8; RECORD]) -> Option<String> {
     };
     let payload = u32::from_le_bytes([r[28], r[29], r[30], r[31]]);
     Some(format!("the {name} hides a local in its payload, {payload}, where renumbering does not reach it"))
+}
+
+fn flagged_stop(r: &[u8; RECORD]) -> Option<String> {
+    let stop = r[0] == CALL && r[1] == STOP && r[10] == 1;
+    stop.then(|| format!("the Stop has the abort action 'abort L{} into t{}' and should have none", one(r), r[11]))
 }
 
 // ---- graphs

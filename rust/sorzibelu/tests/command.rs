@@ -51,6 +51,7 @@ fn page_and_live() {
     );
     for command in ["page", "live"] {
         refused(&[command, &stored("kind12.sheet")], "refused 4 0\noffset 0: its kind is 12, and the last kind is 11, Prop\n");
+        refused(&[command, &stored("stop.sheet")], "refused 18 3\noffset 3: the Stop has the abort action 'abort L1 into t1' and should have none\n");
     }
 }
 
@@ -77,6 +78,12 @@ fn assemble_and_list() {
     assert_eq!(fs::read(&to).unwrap(), fs::read(stored("kind12.sheet")).unwrap());
     refused(&["list", &to], "refused 4 0\noffset 0: its kind is 12, and the last kind is 11, Prop\n");
     answered(&["list", "--unchecked", &to], "locals 1 user 1 parameters 1 references\nraw kind 12 sources 1 t0\n");
+    // so has one with a Stop that has an abort action, and without raw lines
+    let to = dir.join("stop").display().to_string();
+    refused(&["assemble", "-o", &to, &stored("stop.txt")], "refused 18 3\nline 6, offset 3: the Stop has the abort action 'abort L1 into t1' and should have none\n");
+    answered(&["assemble", "--unchecked", &stored("stop.txt"), "-o", &to], "");
+    assert_eq!(fs::read(&to).unwrap(), fs::read(stored("stop.sheet")).unwrap());
+    answered(&["list", "--unchecked", &to], fs::read_to_string(stored("stop.txt")).unwrap().split_once('\n').unwrap().1);
 }
 
 #[test]
@@ -298,6 +305,8 @@ fn refusals_in_words() {
         (&format!("{head}raw kind 8 flag 1\nret\n"), "4 0\nline 2, offset 0: its abort flag is 1 and should be 0 in a Nop\n"),
         (&format!("{head}raw kind 1 sub 28 one L3\nret\n"), "4 0\nline 2, offset 0: its label one, without an abort flag, is 3 and should be 0 in a Call\n"),
         (&format!("{head}raw kind 8 into t1\nret\n"), "4 0\nline 2, offset 0: its abort local is 1 and should be 0 in a Nop\n"),
+        (&format!("{head}label L1\ncall Stop abort L1 into t0\n"), "18 1\nline 3, offset 1: the Stop has the abort action 'abort L1 into t0' and should have none\n"),
+        (&format!("{head}call Stop\nret t2\n\ncall Stop abort L7 into t9\nnop\n"), "18 2\nline 5, offset 2: the Stop has the abort action 'abort L7 into t9' and should have none\n"),
         (&format!("{head}ret t2\n"), "5 0\nline 2, offset 0: the Ret's source is t2, and there are 2 locals\n"),
         (&format!("{head}nop\nt9 <- load Bool\nret\n"), "5 1\nline 3, offset 1: the Load's destination is t9, and there are 2 locals\n"),
         (&format!("{head}call Not abort L1 into t2\nlabel L1\nret\n"), "5 0\nline 2, offset 0: the Call's abort local is t2, and there are 2 locals\n"),
@@ -306,7 +315,7 @@ fn refusals_in_words() {
         (&format!("{head}jump L1\n"), "7 0\nline 2, offset 0: the Jump names label 1, which no Label has\n"),
         (&format!("{head}call Not abort L1 into t0\nret\n"), "7 0\nline 2, offset 0: the Call's abort action names label 1, which no Label has\n"),
         (&format!("{head}ret\nnop\n"), "8 1\nline 3, offset 1: a Nop is the last instruction and can fall past the end\n"),
-        (&format!("{head}label L1\ncall Stop abort L1 into t0\n"), "8 1\nline 3, offset 1: a Stop with an abort action is the last instruction and can fall past the end\n"),
+        (&format!("{head}label L1\ncall Not abort L1 into t0\n"), "8 1\nline 3, offset 1: a Call is the last instruction and can fall past the end\n"),
     ] {
         let sheet = file(&dir, "sheet", text);
         for command in ["check", "flow", "rewrite", "renumber", "label", "list"] {

@@ -113,6 +113,20 @@ int main(void) {
     m1[514] = 26;
     is("named", sorzibelu_label(m1, 1024, 7), 0, 65536u * SORZIBELU_NAMED);
     is("above 65,535", sorzibelu_label(m1, 1024, 65536u + 7), 0, 65536u * SORZIBELU_UNDEFINED);
+    /* the Jump made a Stop with an abort action to Label 7, and one without */
+    m1[576] = 1;
+    m1[576 + 1] = 18;
+    m1[576 + 10] = 1;
+    m1[514] = 41;
+    is("a flagged Stop", sorzibelu_check(m1, 1024), SORZIBELU_FLAGGED_STOP, 1);
+    is("a flagged Stop, flow", sorzibelu_flow(m1, 1024, NULL, 0), SORZIBELU_FLAGGED_STOP, 1);
+    is("a flagged Stop, live", sorzibelu_live(m1, 1024, NULL, 0), SORZIBELU_FLAGGED_STOP, 1);
+    is("a flagged Stop, rewrite", sorzibelu_rewrite(m1, 1024, NULL, 0), SORZIBELU_FLAGGED_STOP, 1);
+    is("a flagged Stop, renumber", sorzibelu_renumber(m1, 1024, NULL, 0), SORZIBELU_FLAGGED_STOP, 1);
+    is("a flagged Stop, label", sorzibelu_label(m1, 1024, 7), SORZIBELU_FLAGGED_STOP, 1);
+    m1[576 + 4] = m1[576 + 10] = 0;
+    m1[514] = 33;
+    is("a Stop", sorzibelu_check(m1, 1024), 0, 0);
     if (SORZIBELU_WAY(65536u * SORZIBELU_UNNAMED + 1023) != SORZIBELU_UNNAMED || SORZIBELU_OFFSET(65536u * SORZIBELU_UNNAMED + 1023) != 1023) failed = 1;
     puts(failed ? "failed" : "all right");
     return failed;

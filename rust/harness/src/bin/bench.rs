@@ -57,7 +57,7 @@ fn straight(rng: &mut Rng) -> Sheet {
     let mut code: Vec<Instruction> = (1..1024)
         .map(|_| {
             let r = random::sheet(rng, random::Shape { n: 2, locals: 64, labels: 0, flags: false }).code.remove(0);
-            let exits = matches!(r.kind, RET | ABORT) || r.kind == CALL && r.sub == 18;
+            let exits = matches!(r.kind, RET | ABORT) || r.kind == CALL && r.sub == STOP;
             if exits { Instruction::new(NOP) } else { r }
         })
         .collect();

@@ -49,7 +49,8 @@ fn cases(sheets: &Path) -> Vec<Case> {
     let worked = |k: usize| fs::read(sheets.join(format!("m{k}.sheet"))).unwrap();
     let m1 = worked(1);
     let bad_sub = Instruction { sub: 1, ..of(NOP) };
-    let stop = Instruction { sub: 18, one: 1, abort: Some(0), ..of(CALL) };
+    let flagged = |sub: u8| Instruction { sub, one: 1, abort: Some(0), ..of(CALL) };
+    let stop = || flagged(STOP);
     let full = |last: Vec<Instruction>| {
         let mut code = vec![of(NOP); 1024 - last.len()];
         code.extend(last);
@@ -87,7 +88,7 @@ fn cases(sheets: &Path) -> Vec<Case> {
         (sheet(1, vec![Instruction { payload: 1, ..of(NOP) }, ret(&[])]).bytes(), 4, 0),
         (sealed(sheet(1, vec![ret(&[9]), ret(&[])]).bytes(), 544 + 14 * 32, 8), 4, 14),
         // 4 at 3 comes before 5 at 0
-        (sheet(1, vec![Instruction { srcs: vec![9], ..of(PROP) }, of(NOP), of(NOP), bad_sub, ret(&[])]).bytes(), 4, 3),
+        (sheet(1, vec![Instruction { srcs: vec![9], ..of(PROP) }, of(NOP), of(NOP), bad_sub.clone(), ret(&[])]).bytes(), 4, 3),
         // 5: a source, a destination, an abort local
         (sheet(1, vec![ret(&[1])]).bytes(), 5, 0),
         (sheet(2, vec![of(NOP), Instruction { dsts: vec![2], ..of(LOAD) }, ret(&[])]).bytes(), 5, 1),
@@ -98,11 +99,18 @@ fn cases(sheets: &Path) -> Vec<Case> {
         // 7: a Jump, an else label, a flagged Call; and before 8
         (sheet(0, vec![of(NOP), jump(0)]).bytes(), 7, 1),
         (sheet(1, vec![label(1), Instruction { one: 1, two: 65_535, srcs: vec![0], ..of(BRANCH) }]).bytes(), 7, 1),
-        (sheet(1, vec![stop.clone(), of(NOP)]).bytes(), 7, 0),
-        // 8: a Nop, a Label, a flagged Stop
+        (sheet(1, vec![flagged(28), of(NOP)]).bytes(), 7, 0),
+        // 8: a Nop, a Label, a flagged Call
         (sheet(0, vec![of(NOP)]).bytes(), 8, 0),
         (sheet(0, vec![jump(3), label(3)]).bytes(), 8, 1),
-        (sheet(1, vec![ret(&[]), label(1), stop]).bytes(), 8, 2),
+        (sheet(1, vec![ret(&[]), label(1), flagged(28)]).bytes(), 8, 2),
+        // 18: the first of two, behind a Stop without a flag and a flagged Call; at the last offset; before 5 to 8 in one sheet; behind 4, also past n; flag 2 is 4
+        (sheet(1, vec![label(1), Instruction { sub: STOP, ..of(CALL) }, flagged(28), stop(), stop(), ret(&[])]).bytes(), 18, 3),
+        (full(vec![label(1), stop()]), 18, 1_023),
+        (sheet(1, vec![ret(&[9]), label(2), label(2), stop(), of(NOP)]).bytes(), 18, 3),
+        (sheet(1, vec![label(1), stop(), bad_sub, ret(&[])]).bytes(), 4, 2),
+        (sealed(sheet(1, vec![label(1), stop()]).bytes(), 544 + 14 * 32, 8), 4, 14),
+        (sealed(sheet(1, vec![label(1), stop()]).bytes(), 544 + 32 + 10, 2), 4, 1),
     ] {
         all.push((s, Some((number, place))));
     }

@@ -1,6 +1,6 @@
-//! Checks 1 to 8.
+//! Checks 1 to 8, and 18 between 4 and 5.
 use super::{falls, names, record, u16_at, u64_at, Refused, Targets, MOST};
-use sorzibelu::sheet::{BLOCK, LABEL, MAX_BYTES, PER_BLOCK, RECORD};
+use sorzibelu::sheet::{BLOCK, CALL, LABEL, MAX_BYTES, PER_BLOCK, RECORD, STOP};
 
 /// Subs, destinations from and to, sources from and to; label one, label two, flag, payload.
 struct Row(u8, u8, u8, u8, u8, bool, bool, bool, bool);
@@ -36,7 +36,7 @@ fn record_ok(r: &[u8; RECORD]) -> bool {
         && (*payload || r[28..] == [0; 4])
 }
 
-/// Checks 1 to 8, each over the whole sheet before the next; how many instructions, and the offsets of their labels. With TABLE, check 7 looks labels up in a table of
+/// Every check, each over the whole sheet before the next; how many instructions, and the offsets of their labels. With TABLE, check 7 looks labels up in a table of
 /// all 65,536 numbers, in place of the nested search that the paper asks for.
 pub fn check<const TABLE: bool>(s: &[u8], targets: &mut Targets) -> Result<usize, Refused> {
     // 1
@@ -69,6 +69,13 @@ pub fn check<const TABLE: bool>(s: &[u8], targets: &mut Targets) -> Result<usize
         let r = record(s, k);
         if if k < n { !record_ok(r) } else { *r != [0; RECORD] } {
             return Err((4, k as u16));
+        }
+    }
+    // 18
+    for k in 0..n {
+        let r = record(s, k);
+        if r[0] == CALL && r[1] == STOP && r[10] == 1 {
+            return Err((18, k as u16));
         }
     }
     // 5

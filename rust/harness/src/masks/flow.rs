@@ -85,7 +85,7 @@ pub fn flow(s: &[u8], table: &mut [u16]) -> Result<u32, Refused> {
         row.copy_from_slice(&[b.lower[i], b.upper[i], b.key[i], 0, 0, 0]);
         row[3..3 + m].copy_from_slice(&b.next[i][..m]);
         if exits(record(s, b.upper[i] as usize)) {
-            row[3 + m] = 1;
+            row[3] = 1;
         }
     }
     Ok(b.count as u32)

@@ -1,11 +1,19 @@
-//! Checks 1 to 8.
+//! Checks 1 to 8, and 18 (document 02, E5) between 4 and 5.
 use sorzibelu::sheet::*;
 
 fn u16_at(s: &[u8], at: usize) -> usize {
     s[at] as usize + 256 * s[at + 1] as usize
 }
 
-/// Checks 1 to 8: a number and a place where the sheet is turned away.
+/// The numbers of the checks of a sheet, in their order.
+pub const CHECKS: [u16; 9] = [1, 2, 3, 4, 18, 5, 6, 7, 8];
+
+/// Which of the checks has this number, from 1; 0 for none.
+pub fn rank(number: u16) -> usize {
+    CHECKS.iter().position(|check| *check == number).map_or(0, |before| before + 1)
+}
+
+/// Every check, each over the whole sheet before the next: a number and a place where the sheet is turned away.
 pub fn check(s: &[u8]) -> Result<(), (u16, u16)> {
     // 1
     if !s.len().is_multiple_of(BLOCK) || s.len() < 1024 || s.len() > MAX_BYTES {
@@ -38,6 +46,13 @@ pub fn check(s: &[u8]) -> Result<(), (u16, u16)> {
         let r = record(k);
         if if k < n { !record_ok(r) } else { r.iter().any(|x| *x != 0) } {
             return Err((4, k as u16));
+        }
+    }
+    // 18
+    for k in 0..n {
+        let r = record(k);
+        if r[0] == CALL && r[1] == STOP && r[10] == 1 {
+            return Err((18, k as u16));
         }
     }
     // 5
@@ -79,7 +94,7 @@ pub fn check(s: &[u8]) -> Result<(), (u16, u16)> {
     let r = record(n - 1);
     let falls = match r[0] {
         RET | BRANCH | JUMP | ABORT => false,
-        CALL => r[1] != 18 || r[10] == 1,
+        CALL => r[1] != STOP,
         _ => true,
     };
     if falls {

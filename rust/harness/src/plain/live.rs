@@ -11,14 +11,18 @@ pub struct Blocks {
     pub next: Vec<Vec<usize>>,
 }
 
+/// Ret, Abort and Stop, which go nowhere.
+fn exits(r: &Instruction) -> bool {
+    matches!(r.kind, RET | ABORT) || r.kind == CALL && r.sub == STOP
+}
+
 fn successors(code: &[Instruction], offset_of: &[usize], k: usize) -> Vec<usize> {
     let r = &code[k];
-    let exit = matches!(r.kind, RET | ABORT) || r.kind == CALL && r.sub == 18;
     let mut v = match r.kind {
+        _ if exits(r) => vec![],
         BRANCH => vec![offset_of[r.one as usize], offset_of[r.two as usize]],
         JUMP => vec![offset_of[r.one as usize]],
         CALL if r.abort.is_some() => vec![offset_of[r.one as usize], k + 1],
-        _ if exit => vec![],
         _ => vec![k + 1],
     };
     v.sort_unstable();
@@ -27,7 +31,7 @@ fn successors(code: &[Instruction], offset_of: &[usize], k: usize) -> Vec<usize>
 
 /// A block ends with it.
 pub fn ends_block(r: &Instruction) -> bool {
-    matches!(r.kind, BRANCH | JUMP | RET | ABORT) || r.kind == CALL && (r.sub == 18 || r.abort.is_some())
+    exits(r) || matches!(r.kind, BRANCH | JUMP) || r.kind == CALL && r.abort.is_some()
 }
 
 pub fn blocks(code: &[Instruction]) -> Blocks {
@@ -80,11 +84,7 @@ pub fn flow(code: &[Instruction]) -> Vec<u16> {
     let b = blocks(code);
     let mut table = vec![];
     for (i, (l, u)) in b.bounds.iter().enumerate() {
-        let r = &code[*u];
-        let mut row: Vec<usize> = b.next[i].clone();
-        if matches!(r.kind, RET | ABORT) || r.kind == CALL && r.sub == 18 {
-            row.push(1);
-        }
+        let mut row: Vec<usize> = if exits(&code[*u]) { vec![1] } else { b.next[i].clone() };
         row.resize(3, 0);
         table.extend([*l, *u, b.keys[i], row[0], row[1], row[2]].map(|x| x as u16));
     }

@@ -18,7 +18,7 @@ pub fn old_numbers(sheet: &Sheet) -> Vec<u8> {
     (0..users).chain(others.into_iter().map(|(_, x)| x)).collect()
 }
 
-/// The renumbered sheet where enough room is lent; where less, 9 comes behind 1 to 8 and 15.
+/// The renumbered sheet where enough room is lent; where less, 9 comes behind its checks and 15.
 pub fn renumber(s: &[u8]) -> Result<Vec<u8>, (u16, u16)> {
     check(s)?;
     let sheet = Sheet::of_bytes(s);

@@ -62,7 +62,7 @@ pub fn rewriting(sheet: &Sheet) -> Rewriting {
     w
 }
 
-/// The rewritten sheet where enough room is lent; where less, 9 comes behind 1 to 8 and before 10 and 11.
+/// The rewritten sheet where enough room is lent; where less, 9 comes behind its checks and before 10 and 11.
 pub fn rewrite(s: &[u8]) -> Result<Vec<u8>, (u16, u16)> {
     check(s)?;
     let sheet = Sheet::of_bytes(s);

@@ -72,7 +72,7 @@ fn read(line: &str) -> Result<Said, String> {
             let used = next.iter().rposition(|k| *k != 0).map_or(0, |i| i + 1);
             Ok(Said::Row(Row { lower, upper, key, next: next[..used].to_vec() }))
         }
-        _ => Err(format!("{} numbers where lower, upper, key and up to three successors should stand", numbers.len())),
+        _ => Err(format!("{} numbers where lower, upper, key and up to two successors should stand", numbers.len())),
     }
 }
 

@@ -52,9 +52,6 @@ pub struct Rules {
     next: Vec<Vec<usize>>,
 }
 
-/// The operation that ends a function.
-const STOP: u8 = 18;
-
 fn mask(xs: &[u8]) -> u64 {
     xs.iter().fold(0, |m, x| m | 1 << (x & 63))
 }
@@ -78,10 +75,10 @@ impl Rules {
         let next = code.iter().enumerate().map(|(k, r)| {
             let exit = matches!(r.kind, RET | ABORT) || r.kind == CALL && r.sub == STOP;
             let mut all: Vec<usize> = match r.kind {
+                _ if exit => vec![],
                 BRANCH => label(r.one).into_iter().chain(label(r.two)).collect(),
                 JUMP => label(r.one).into_iter().collect(),
                 CALL if r.abort.is_some() => label(r.one).into_iter().chain([k + 1]).collect(),
-                _ if exit => vec![],
                 _ => vec![k + 1],
             };
             all.sort_unstable();

@@ -9,8 +9,6 @@ pub(super) struct Starts {
     named: HashMap<u16, usize>,
 }
 
-const STOP: u8 = 18;
-
 /// What an instruction that ends a block is called.
 fn ends(r: &Instruction) -> Option<&'static str> {
     match r.kind {
@@ -18,8 +16,8 @@ fn ends(r: &Instruction) -> Option<&'static str> {
         JUMP => Some("Jump"),
         RET => Some("Ret"),
         ABORT => Some("Abort"),
-        CALL if r.abort.is_some() => Some("Call with an abort action"),
         CALL if r.sub == STOP => Some("Stop"),
+        CALL if r.abort.is_some() => Some("Call with an abort action"),
         _ => None,
     }
 }

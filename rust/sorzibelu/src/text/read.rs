@@ -102,7 +102,7 @@ impl Written {
         let place = refusal.place() as usize;
         let line = match refusal.number() {
             2 => self.blocks.get(&place),
-            4..=8 | 15 => self.code.get(place),
+            4..=8 | 15 | 18 => self.code.get(place),
             _ => None,
         };
         Fault { line: line.copied().unwrap_or(self.heading), what: format!("refused {} {}: {}", refusal.number(), refusal.place(), why(&self.bytes, refusal)) }

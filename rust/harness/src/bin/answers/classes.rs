@@ -1,5 +1,9 @@
 //! Class sets: every edge of E3, random ones, and their stored answers, some of them made wrong on purpose.
-use crate::{Maker, edges::nops, file::*};
+use crate::{
+    Maker,
+    edges::{flagged_stops, nops},
+    file::*,
+};
 use harness::{
     Bytes,
     classes::{self, Pool, TOO_MANY_BLOCKS, longer},
@@ -14,7 +18,7 @@ use std::fs;
 /// Every edge of a class set.
 fn edges() -> Vec<Vec<u8>> {
     let stored = |name: &str| fs::read(format!("{}/../../sheets/{name}.sheet", env!("CARGO_MANIFEST_DIR"))).expect("sheets/");
-    let [m1, m2, m3, m6, kind12] = ["m1", "m2", "m3", "m6", "kind12"].map(stored);
+    let [m1, m2, m3, m6, kind12, stop] = ["m1", "m2", "m3", "m6", "kind12", "stop"].map(stored);
     let numbered = |class: &[u8], block: usize, number: u16| {
         let mut t = class.to_vec();
         t[BLOCK * block..][..2].copy_from_slice(&number.to_le_bytes());
@@ -34,6 +38,10 @@ fn edges() -> Vec<Vec<u8>> {
     // one sheet, two, and a refused one at each place
     all.extend([m1.clone(), m2.clone(), m3.clone(), m6.clone(), kind12.clone(), zeros(1), [&m1[..], &m2, &kind12, &m3, &m6].concat()]);
     all.extend([[&kind12[..], &m1, &m2].concat(), [&m1[..], &kind12, &m2].concat(), [&m1[..], &m2, &kind12].concat(), [&m1[..], &kind12, &zeros(1), &m2].concat()]);
+    // a Stop with an abort action at each place, beside other refusals; every sheet of two blocks that can be refused so, 16 at a time
+    all.extend([stop.clone(), stop.repeat(16), [&stop[..], &m1, &m2].concat(), [&m1[..], &stop, &m2].concat(), [&m1[..], &m2, &stop].concat(), [&stop[..], &kind12, &stop].concat()]);
+    let two_blocks: Vec<Vec<u8>> = flagged_stops().into_iter().filter(|s| s.len() == 2 * BLOCK).collect();
+    all.extend(two_blocks.chunks(16).map(<[_]>::concat));
     // glued and cut at each block, numbers of one byte and of two
     let three = [&m1[..], &m2, &m1].concat();
     all.extend([(2, 1), (2, 2), (2, 256), (4, 2), (4, 255), (1, 0), (3, 0), (5, 0), (3, 256), (3, 2)].map(|(block, number)| numbered(&three, block, number)));

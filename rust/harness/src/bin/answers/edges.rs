@@ -41,12 +41,11 @@ pub fn lookups() -> Vec<(Vec<u8>, Vec<u32>)> {
         ("ret", &[0, 1, 65_535, 65_536, u32::MAX][..]),
         ("label L0\nnop\ncall Not\nt0 <- load Bool\nret", &[0, 1, 65_536]),
         ("call Stop\nlabel L0\nret", &[0]),
-        // named by then, by else, by both, by a Jump, by a Call and by a Stop with an abort action; the others are not
+        // named by then, by else, by both, by a Jump and by a Call with an abort action; the others are not
         ("branch L1 L2 on t0\nlabel L1\nlabel L2\nlabel L3\nret", &[0, 1, 2, 3, 4]),
         ("branch L2 L2 on t0\nlabel L1\nlabel L2\nret", &[1, 2]),
         ("jump L1\nlabel L1\nlabel L0\nret", &[0, 1]),
         ("call Not abort L1 into t0\nlabel L0\nlabel L1\nret", &[0, 1]),
-        ("call Stop abort L1 into t0\nlabel L0\nlabel L1\nret", &[0, 1]),
         // named only in front of the Label, only behind it, only where no path leads
         ("jump L7\nlabel L6\nlabel L7\nret", &[6, 7]),
         ("label L6\nlabel L7\nnop\njump L7", &[6, 7]),
@@ -61,6 +60,7 @@ pub fn lookups() -> Vec<(Vec<u8>, Vec<u32>)> {
         ("label L65535\nlabel L0\nlabel L1\nret", &[0, 1, 65_535, 65_536, 65_537, 131_072, 1 << 31, u32::MAX]),
         ("label L256\nlabel L1\njump L256", &[0, 1, 255, 256, 257, 65_536 + 256]),
         // refused
+        ("call Stop abort L1 into t0\nlabel L0\nlabel L1\nret", &[0, 1, 65_536]),
         ("label L1\nret t1", &[1]),
         ("label L1\nlabel L1\njump L1", &[1, 2]),
         ("label L1\njump L2", &[1, 2]),
@@ -84,6 +84,55 @@ pub fn lookups() -> Vec<(Vec<u8>, Vec<u32>)> {
     seal(&mut heading);
     seal(&mut record);
     all.extend([vec![], vec![0; 36_352], at(2, 9), at(512, 2), heading, record].map(|s| (s, vec![0, 65_536])));
+    all
+}
+
+/// A Label, Nops and a Ret, but at each of these offsets a Call with an abort action.
+fn flagged(n: usize, sub: u8, places: &[usize]) -> Vec<u8> {
+    let mut code = vec![Instruction::new(NOP); n];
+    code[0] = Instruction { one: 1, ..Instruction::new(LABEL) };
+    code[n - 1] = Instruction::new(RET);
+    places.iter().for_each(|k| code[*k] = Instruction { sub, one: 1, abort: Some(1), ..Instruction::new(CALL) });
+    Sheet { locals: 2, code, ..Default::default() }.bytes()
+}
+
+/// 18 alone, at the first of several, in front of 5 to 8 and behind 1 to 4 in the same sheet, at every sort of place; and sheets that are nearly refused so.
+pub fn flagged_stops() -> Vec<Vec<u8>> {
+    let head = "locals 2 user 2 parameters 0 references t1";
+    let mut all: Vec<Vec<u8>> = vec![];
+    for t in [
+        // alone: first, last, between, with both lists, payload and attribute id; behind Stops without a flag and flagged Calls
+        "\ncall Stop abort L1 into t0\nlabel L1\nret", "\nlabel L1\ncall Stop abort L1 into t0", "\nlabel L0\nnop\nt0 t1 <- call Stop t1 abort L0 into t1 #18 @18\nret",
+        "\ncall Stop\nt0 <- call Stop t1\nlabel L1\ncall Stop abort L1 into t0\nret", "\nlabel L1\ncall Havoc abort L1 into t0\ncall IsParent t1 abort L1 into t0\ncall Stop abort L1 into t0\nret",
+        // the first of several
+        "\nnop\nlabel L1\ncall Stop abort L1 into t1\ncall Stop abort L1 into t0\nret", "\nlabel L1\ncall Stop abort L1 into t0\nret\ncall Stop\ncall Stop abort L1 into t1",
+        // with a 5 in front, behind and of its own, a 6, a 7 likewise, an 8, all of them
+        "\nprop Assert t2\nlabel L1\ncall Stop abort L1 into t0\nret", "\nlabel L1\ncall Stop abort L1 into t0\nret t2", "\nnop\nlabel L1\ncall Stop t9 abort L1 into t2\nret",
+        "\nlabel L1\nlabel L1\ncall Stop abort L1 into t0\nret", "\ncall Stop abort L1 into t0\nlabel L1\nlabel L1\nret", "\njump L9\nlabel L1\ncall Stop abort L1 into t0\nret",
+        "\nnop\ncall Stop abort L7 into t0\nret", "\nlabel L1\ncall Stop abort L1 into t0\nbranch L1 L2 on t0", "\nlabel L1\ncall Stop abort L1 into t0\nnop",
+        "\nret t2\nlabel L1\nlabel L1\njump L9\ncall Stop abort L9 into t2\nnop",
+        // a payload that hides a local, which renumbering looks for behind it
+        "\ncall WriteBack t1\nlabel L1\ncall Stop abort L1 into t0\ncall IsParent\nret",
+        // 4 in front, behind, past the last instruction, and of a Stop itself: flag 2, a label or a local without a flag, a ninth source
+        "\nraw kind 12\nlabel L1\ncall Stop abort L1 into t0\nret", "\nlabel L1\ncall Stop abort L1 into t0\nraw kind 8 sub 1\nret", " count 3\nlabel L1\ncall Stop abort L1 into t0\nret\nnop",
+        " count 1\nret\ncall Stop abort L1 into t0", "\nlabel L1\nraw kind 1 sub 18 one L1 flag 2 into t0\ncall Stop abort L1 into t0\nret", "\nraw kind 1 sub 18 flag 255\nret",
+        "\nlabel L1\nraw kind 1 sub 18 one L1\nret", "\nraw kind 1 sub 18 into t1\nret", "\nlabel L1\nraw kind 1 sub 18 one L1 flag 1 sources 9\nret",
+        // 4: a flagged Ret, Abort or Jump
+        "\nraw kind 2 flag 1\nret", "\nlabel L1\nraw kind 7 one L1 flag 1 into t1 sources 1 t0", "\nlabel L1\nraw kind 5 one L1 flag 1",
+        // 1, 2 and 3
+        " bytes 1023\nlabel L1\ncall Stop abort L1 into t0\nret", "\nblock 1 check 5\nlabel L1\ncall Stop abort L1 into t0\nret", " t2\nlabel L1\ncall Stop abort L1 into t0\nret",
+        // accepted: Stops without a flag, first, last and between; other Calls with one; 18 in other fields
+        "\ncall Stop\nret", "\nnop\ncall Stop #1 @1", "\nt0 t1 <- call Stop t1 t0 #18\ncall Stop\nret", "\nlabel L1\ncall Havoc t0 abort L1 into t1\nret",
+        "\nlabel L1\nt0 <- call IsParent abort L1 into t1\ncall Stop", "\nlabel L1\ncall OpaqueCallEnd abort L1 into t0\ncall FreezeRef abort L1 into t0\ncall TraceAbort abort L1 into t0\nret",
+        "\nlabel L18\ncall Not abort L18 into t0 #18 @18\nsavemem #18\nret @18",
+    ] {
+        all.push(text::read(&format!("{head}{t}\n")).expect("a text").bytes);
+    }
+    // the last record of a block and the first of the next, the last of the longest sheet, two blocks apart; the operations beside it at the same places
+    for places in [&[14][..], &[15], &[29], &[30, 31], &[15, 1_023], &[511, 512], &[1_022, 1_023], &[1_023]] {
+        all.push(flagged((places[places.len() - 1] + 1).max(32), STOP, places));
+    }
+    all.extend([flagged(1, STOP, &[0]), flagged(15, STOP, &[14]), flagged(16, STOP, &[15]), flagged(32, STOP - 1, &[14, 15, 30]), flagged(32, STOP + 1, &[14, 15, 30])]);
     all
 }
 
@@ -149,7 +198,7 @@ pub fn edges() -> Vec<Vec<u8>> {
     for t in [
         "ret t2", "nop\nret t1 t9", "t0 <- call Not t1 abort L1 into t2\nlabel L1\nret", "label L1\nnop\nlabel L1\nret", "jump L3\nlabel L1\nlabel L1\nret",
         "branch L1 L2 on t0\nlabel L1\nret", "branch L2 L1 on t0\nlabel L1\nret", "jump L0\nlabel L65535\nret", "call Not abort L9 into t0\nret", "nop\nlabel L1",
-        "call Stop", "label L1\ncall Stop abort L1 into t0", "ret\nt0 <- call Not", "jump L2\nlabel L1\nbranch L1 L2 on t0\nlabel L2\nret", "nop\nlabel L1\nret\njump L1",
+        "call Stop", "ret\nt0 <- call Not", "jump L2\nlabel L1\nbranch L1 L2 on t0\nlabel L2\nret", "nop\nlabel L1\nret\njump L1",
         "branch L1 L1 on t0\nlabel L1\nret", "t1 <- call Not t0 abort L1 into t0\nret t1\nlabel L1\nret", "t0 <- call Not abort L1 into t0\nlabel L1\nret t0",
         "t1 <- call Not t0\nt0 <- copy t1\nret", "t1 <- call Not t0\nt0 <- load Bool\nt0 <- copy t1\nret t0", "t1 t1 <- call Not t0\nt0 <- copy t1\nret t0",
         "t0 <- call Stop\nt1 <- copy t0\nret t1", "label L65535\nbranch L65535 L65535 on t0", "t0 <- copy t0\nret t0", "label L1\njump L1", "label L65535\nnop @65535\nret @65535",

@@ -8,6 +8,8 @@ pub const CHECK: u8 = 7;
 pub const RENUMBER: u8 = 8;
 pub const LABEL: u8 = 9;
 pub const LIVE_CLASS: u8 = 10;
+/// The calls, from 1.
+pub const NAMES: [&str; 10] = ["flow", "live", "rewrite", "in use", "conditional", "dying", "check", "renumber", "label", "live class"];
 pub const WRONG: u8 = 128;
 pub const FILLING: u8 = 0xA5;
 pub const HEAD: usize = 16;
@@ -197,7 +199,7 @@ pub fn replay(file: &[u8]) -> usize {
             }
         }
     }
-    for (op, name) in (1..).zip(["flow", "live", "rewrite", "in use", "conditional", "dying", "check", "renumber", "label", "live class"]) {
+    for (op, name) in (1..).zip(NAMES) {
         let of = match op {
             4..7 => "graphs",
             10 => "class sets",

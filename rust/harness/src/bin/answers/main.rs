@@ -7,7 +7,7 @@ mod classes;
 mod edges;
 mod file;
 
-use edges::{edges, lookups, numberings};
+use edges::{edges, flagged_stops, lookups, numberings};
 use file::*;
 use harness::{Bytes, graphs, oracle::*, plain, random, random::Rng};
 use sorzibelu::{
@@ -16,7 +16,7 @@ use sorzibelu::{
     sheet::{MAX_BYTES, Sheet},
 };
 use std::{
-    collections::BTreeSet,
+    collections::{BTreeMap, BTreeSet},
     env, fs,
     process::{Child, ExitCode},
 };
@@ -197,10 +197,14 @@ impl Maker {
             let turned = |value: u32, by: u32| 65_536 * (1 + (value / 65_536 - 1 + by) % 3) + value % 65_536;
             wrong.extend([1, 2].map(|by| Case { result: c.result.map(|value| turned(value, by)), ..c.clone() }));
         }
-        // 9 for 15, and 15 at another place
+        // 9 for 15, and 15 at another place; 4, 5 and nothing for 18, and 18 at another place
         for c in self.cases.iter().filter(|c| matches!(c.result, Err((15, _)))).step_by(12) {
             let place = c.result.map_or_else(|(_, place)| place, |_| 0);
             wrong.extend([(9, 0), (15, place + 1)].map(|r| Case { result: Err(r), ..c.clone() }));
+        }
+        for c in self.cases.iter().filter(|c| matches!(c.result, Err((18, _)))).step_by(30) {
+            let place = c.result.map_or_else(|(_, place)| place, |_| 0);
+            wrong.extend([Err((4, place)), Err((5, place)), Ok(0), Err((18, place + 1))].map(|result| Case { result, ..c.clone() }));
         }
         self.cases.extend(wrong.into_iter().map(|c| Case { op: c.op + WRONG, ..c }));
     }
@@ -246,6 +250,10 @@ fn make(oracle: Child) -> Vec<Case> {
     }
     for (s, asked) in lookups() {
         m.labels(&s, &asked);
+    }
+    for s in flagged_stops() {
+        m.sheet(&s);
+        m.labels(&s, &[1]);
     }
     // M7, M8, cycles and chains; then random graphs, fine, cyclic and broken
     let chain = [[0, 1, 0], [1, 2, 0]];
@@ -306,6 +314,18 @@ fn make(oracle: Child) -> Vec<Case> {
     m.cases
 }
 
+/// How many cases of each call are accepted and how many have each refusal; those made wrong are left out.
+fn tell(cases: &[Case]) {
+    for (op, name) in (1..).zip(NAMES) {
+        let mut counts: BTreeMap<u16, usize> = BTreeMap::new();
+        for c in cases.iter().filter(|c| c.op == op) {
+            *counts.entry(c.result.map_or_else(|(number, _)| number, |_| 0)).or_default() += 1;
+        }
+        let refused: Vec<String> = counts.iter().filter(|(number, _)| **number > 0).map(|(number, times)| format!(" {number}: {times}")).collect();
+        eprintln!("{name}: accepted {}, refused{}", counts.get(&0).unwrap_or(&0), refused.join(","));
+    }
+}
+
 fn main() -> ExitCode {
     let args: Vec<String> = env::args().skip(1).collect();
     let [oracle, to] = &args[..] else {
@@ -319,7 +339,9 @@ fn main() -> ExitCode {
             return ExitCode::from(2);
         }
     };
-    let file = write_file(&make(oracle));
+    let cases = make(oracle);
+    tell(&cases);
+    let file = write_file(&cases);
     if let Err(e) = fs::write(to, &file) {
         eprintln!("{to}: {e}");
         return ExitCode::from(2);

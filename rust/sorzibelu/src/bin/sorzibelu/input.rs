@@ -109,7 +109,7 @@ impl Given {
     /// What a refusal means, with the line of the text where there is one.
     pub fn why(&self, refusal: Refusal) -> String {
         let line = match (&self.text, refusal.number()) {
-            (Some(written), 2..=8 | 15) => format!("line {}, ", written.fault(refusal).line),
+            (Some(written), 2..=8 | 15 | 18) => format!("line {}, ", written.fault(refusal).line),
             _ => String::new(),
         };
         line + &sheet::why(&self.bytes, refusal)
