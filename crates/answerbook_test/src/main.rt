@@ -1,4 +1,4 @@
-// The pages of eight sheets of two blocks each, M1 to M6, one with an unknown kind and M2 with a Label that nobody names, one behind the other on standard input:
+// The pages of nine sheets of two blocks each, M1 to M6, one with an unknown kind, M2 with a Label that nobody names and one with a flagged Stop, one behind the other on standard input:
 // the output is compared with the pages in sheets/.
 use base::BLOCK_BYTES;
 use libc::STDIN_FILENO;
@@ -19,7 +19,7 @@ fn next_page() {
 
 fn main() {
     let mut i = 0u32;
-    while i < 8 {
+    while i < 9 {
         next_page();
         i += 1;
     }

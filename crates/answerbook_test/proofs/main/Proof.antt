@@ -6,10 +6,10 @@ use Rattle.answerbook_test.proofs.main.Statement.{statement}
 use Rattle.answerbook_test.proofs.main.Tie as tie
 
 abbrev Inv-loop : tie.InvT-loop
-Inv-loop i₀ i = i ≤ 8
+Inv-loop i₀ i = i ≤ 9
 
 abbrev μ-loop : tie.MeasureT-loop
-μ-loop i₀ i = 8 - i
+μ-loop i₀ i = 9 - i
 
 loop-holds : tie.Need-loop-holds Inv-loop μ-loop
 loop-holds c = omega arith
