@@ -35,7 +35,7 @@ fn pack(a: Answer) -> u64
     }
 }
 
-// Checks 1 to 8 of a sheet: 0 where they accept.
+// Checks 1 to 4, 18 and 5 to 8 of a sheet: 0 where they accept.
 #[no_mangle]
 pub extern "C" fn sorzibelu_check(sheet: &[u8]) -> u64
     ensures result { λ r. ⌜ r ≡ packed (resultOf (checkReply (now (sheet .entry)))) ⌝ }

@@ -1,12 +1,11 @@
 -- No page is longer than is counted. Assumes nothing.
-use mathlib.Core.Path.{_≡_, refl, sym, ap, subst}
-use mathlib.Core.Bool.{Bool, true, cond}
-use mathlib.Core.Logic.{⊎-elim}
+use mathlib.Core.Path.{_≡_, refl, ap}
+use mathlib.Core.Bool.{cond}
 use mathlib.Core.List.{List, [], _∷_, _++_, map, List·Memᴰ, List·Memᴰ·head, List·Memᴰ·tail, List·Memᴰ·eq-of-singleton}
 use Prim.Native.Nat.{ℕ, suc, _+_, _*_, _≤_, _<_}
 use native.Mathlib.Omega.{arith}
 use lib.Dec.{eqb}
-use lib.ListN.{length, getD, drop, replicate, length-append, List·getD-eq-default}
+use lib.ListN.{length, getD, drop, length-append, List·getD-eq-default}
 use Rattle.base.specs.Sizes.{rowNumbers, maxNumber, maxInstructions, maxBytes}
 use Rattle.base.specs.Lists.{joins, gather, place}
 use Rattle.base.specs.ListLaws.{by-test, getD-in, in-take, in-drop, in-map, in-gather, in-getD}
@@ -41,7 +40,6 @@ use Rattle.pages.specs.Code.{localsIn, codeText}
 use Rattle.pages.specs.Page.{blockLine, flowText, unnamedText, unnamedLabels, unnamedLine, setText, liveLine, liveText, rewrittenText, sections, pageBy, page}
 use Rattle.pages.specs.Size.{numberDigits, payloadDigits, codeBytes, blockLineBytes, unnamedBytes, flowBytes, setTextBytes, liveLineBytes, liveTextBytes, pageBytes}
 use Rattle.pages.specs.LineSizeLaws.{number-most, said-most, cond-most, marked-most, joins-most, locals-most, code-most}
-
 -- ---- the numbers of the flow table
 
 -- every number of a list is at most the highest

@@ -8,14 +8,12 @@ use native.Mathlib.Omega.{arith}
 use borrow.Author.Tests.{le-ltb, ne-eqb}
 use lib.Dec.{ltb}
 use lib.ListN.{getD, length, take, drop}
-use lib.Seq.{drop-drop, getD-take, getD-drop}
-use Rattle.base.specs.Sizes.{blockBytes, recordsFrom, recordBytes, blockRecords}
+use lib.Seq.{getD-take, getD-drop}
+use Rattle.base.specs.Sizes.{recordsFrom, recordBytes, blockRecords}
 use Rattle.base.specs.Lists.{zeros, firstBad}
-use Rattle.base.specs.Bytes.{part}
 use Rattle.base.specs.SearchLaws.{bad-pass, bad-here, bad-same}
 use Rattle.base.specs.ListLaws.{by-test}
 use Rattle.base.specs.GrowLaws.{getD-past, getD-within}
-use Rattle.base.specs.PartLaws.{front-part}
 use Rattle.sheet.specs.Layout.{countOf, decode}
 use Rattle.sheet.specs.InBlock.{recordIn, handed, record-in}
 use Rattle.sheet.specs.Checks.{shapes, noShape, shapeOf, fits, recordOk, placeOk}
@@ -24,7 +22,6 @@ use Rattle.base.specs.Refusals.{foundOf}
 use Rattle.base.specs.RefusalLaws.{found-at, found-none}
 use Rattle.base.specs.declared.Found.{Found}
 use Rattle.base.specs.declared.Found.the-variants.{At, Nothing}
-
 -- whether the record of place k in the block with bytes p is right: `placeOk` of the sheet
 unfoldable pub inBlock : List ℕ → ℕ → ℕ → ℕ → Bool
 inBlock p from n k = cond (ltb k n) (recordOk (decode (recordIn p from k))) (zeros (recordIn p from k))

@@ -1,6 +1,5 @@
 // Check 18: a Stop has no abort action. Assumes nothing.
 ghost use mathlib.Core.Path.{_≡_};
-ghost use mathlib.Core.Logic.{_⊎_};
 ghost use Prim.Native.Nat.{_≤_};
 ghost use lib.ListN.{length};
 ghost use Rattle.base.specs.Sizes.{blockBytes, recordBytes, blockRecords, maxInstructions};
@@ -16,6 +15,7 @@ use base::Found;
 use base::RECORD_BYTES;
 use base::RECORDS_FROM;
 use sheet::reader::decode;
+use sheet::reader::in_block;
 use stackless_bytecode::is_stop;
 
 // Whether a record is no Stop with an abort action. Only where its operation is Stop is more of it read.
@@ -48,16 +48,6 @@ fn first_in(p: &[u8], from: usize, m: usize) -> Found
     Found::Nothing
 }
 
-// The lower of the two.
-fn at_most(a: usize, most: usize) -> usize
-    ensures { λ r. ⌜ ((r ≡ a) × (a ≤ most)) ⊎ ((r ≡ most) × (most ≤ a)) ⌝ }
-{
-    if a < most {
-        return a;
-    }
-    most
-}
-
 // The first Stop with an abort action. It goes block by block, so that no offset is divided by the records of a block.
 pub fn first_bad_stop(s: &[u8], n: usize) -> Found
     requires { ⌜ Shaped (now s) n ⌝ }
@@ -67,8 +57,7 @@ pub fn first_bad_stop(s: &[u8], n: usize) -> Found
     let mut from = 0;
     while from < n {
         let at = BLOCK_BYTES * (1 + b);
-        let m = at_most(n - from, BLOCK_RECORDS);
-        let found = first_in(&s[at..at + BLOCK_BYTES], from, m);
+        let found = first_in(&s[at..at + BLOCK_BYTES], from, in_block(n, from));
         let Found::Nothing = found else {
             return found;
         };

@@ -1,7 +1,7 @@
 -- The successors of a Call, by its flag, where no Stop has an abort action. Assumes nothing.
-use mathlib.Core.Path.{_≡_, refl, ap, ap₂, _∙_}
+use mathlib.Core.Path.{_≡_, ap, ap₂, _∙_}
 use mathlib.Core.Bool.{Bool, true, false, cond, not, _||_}
-use mathlib.Core.List.{List, [], _∷_, _++_}
+use mathlib.Core.List.{[], _∷_, _++_}
 use Prim.Native.Nat.{ℕ}
 use lib.Dec.{eqb}
 use lib.ListN.{length, take}
@@ -10,7 +10,6 @@ use Rattle.stackless_bytecode.specs.Kinds.{Call, Branch, Jump, isExit, isFlagge
 use Rattle.stackless_bytecode.specs.KindLaws.{flagged-goes}
 use Rattle.stackless_bytecode.specs.Successors.{ascending}
 use Rattle.stackless_control_flow_graph.specs.Arrays.{succsBy}
-
 module _ (r : Bytecode) (one two next : ℕ) (call : r .kind ≡ Call) where
   -- what `succsBy` gives of a Call
   call-is : {f x : Bool} → isFlagged r ≡ f → isExit r ≡ x → succsBy r one two next ≡ ascending (take (length (cond f (r .one ∷ []) [])) (one ∷ two ∷ []) ++ cond (not x) (next ∷ []) [])

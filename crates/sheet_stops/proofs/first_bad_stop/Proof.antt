@@ -1,6 +1,6 @@
 -- `first_bad_stop` meets its contract: each turn is one block of the search. Assumes nothing.
 use mathlib.Core.Path.{_≡_, sym, ap, _∙_}
-use Prim.Native.Nat.{ℕ, _+_, _-_, _*_, _≤_}
+use Prim.Native.Nat.{_+_, _-_, _*_, _≤_}
 use native.Mathlib.Omega.{arith}
 use borrow.Author.Needs.{needs}
 use lib.ListN.{length}
@@ -10,7 +10,7 @@ use Rattle.base.specs.SearchLaws.{bad-start, bad-end}
 use Rattle.base.specs.Refusals.{foundOf}
 use Rattle.stackless_bytecode.specs.Kinds.{at, stopOk}
 use Rattle.sheet.specs.Layout.{recordBlocks, codeOf}
-use Rattle.sheet_stops.specs.StopLaws.{few-records, pass-block, stop-block}
+use Rattle.sheet.specs.ByBlocks.{few-records, pass-block, stop-block}
 use Rattle.sheet_stops.proofs.first_bad_stop.Statement.{statement}
 use Rattle.sheet_stops.proofs.first_bad_stop.Tie as tie
 
@@ -29,20 +29,18 @@ unfolding recordBlocks
 inside c = omega (arith, c .before .before .before .pre .size, c .before .loop .inv .0)
 
 first-in-requires : tie.Need-first-in-requires Inv-loop μ-loop
-first-in-requires c κs =
-    let l = c .before .before .before .loop in
-    (search needs, omega (arith, c .before .before .before .before .before .pre .few), few-records (c .before .at-most .ensures))
+first-in-requires c κs = (search needs, omega (arith, c .before .before .before .before .before .pre .few), few-records (c .in-block .ensures))
 
 returns : tie.Need-returns Inv-loop μ-loop
 returns c =
     let l = c .before .before .before .before .before .before .loop in
-    stop-block (c .before .before .before .before .before .before .before .before .pre) (l .b) _ (l .from) (l .inv .0) (c .before .before .before .before .at-most .ensures) (search needs) _ _ (c .before .before .first-in .ensures) (c .enum-told2 .given .1)
+    stop-block (c .before .before .before .before .before .before .before .before .pre) (l .b) _ (l .from) (l .inv .0) (c .before .before .before .in-block .ensures) (search needs) stopOk _ _ (c .before .before .first-in .ensures) (c .enum-told2 .given .1)
     ∙ sym (ap foundOf (l .inv .1))
 
 loop-again : tie.Need-loop-again Inv-loop μ-loop
 loop-again c =
     let l = c .before .before .before .before .before .before .loop in
-    (omega (arith, l .inv .0), l .inv .1 ∙ pass-block (c .before .before .before .before .before .before .before .before .pre) (l .b) _ (l .from) (l .inv .0) (c .before .before .before .before .at-most .ensures) (search needs) _ (c .before .before .first-in .ensures) (c .enum-told .given .1))
+    (omega (arith, l .inv .0), l .inv .1 ∙ pass-block (c .before .before .before .before .before .before .before .before .pre) (l .b) _ (l .from) (l .inv .0) (c .before .before .before .in-block .ensures) (search needs) stopOk _ (c .before .before .first-in .ensures) (c .enum-told .given .1))
 
 returns-2 : tie.Need-returns-2 Inv-loop μ-loop
 returns-2 c = sym (ap foundOf (c .before .loop .inv .1 ∙ bad-end _ (c .before .loop .from) _ (search needs)))
@@ -56,12 +54,11 @@ first-bad-stop-spec =
     loop-holds
     (λ c. let h = inside c in search needs)
     (λ c. let h = inside c in search needs)
-    (λ c. search needs)
+    (λ c. let h = inside c in search needs)
+    (λ c. let h = inside c in search needs)
+    (λ c. let h = inside c in search needs)
+    (λ c. let h = inside c in search needs)
     (λ c κs. search needs)
-    (λ c. let h = inside (c .before) in search needs)
-    (λ c. let h = inside (c .before) in search needs)
-    (λ c. let h = inside (c .before) in search needs)
-    (λ c. let h = inside (c .before) in search needs)
     first-in-requires
     (λ c. search needs)
     (λ c. search needs)

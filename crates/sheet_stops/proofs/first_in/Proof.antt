@@ -12,7 +12,7 @@ use Rattle.base.specs.Refusals.{foundOf}
 use Rattle.stackless_bytecode.specs.Kinds.{stopOk}
 use Rattle.sheet.specs.Layout.{decode}
 use Rattle.sheet.specs.InBlock.{recordIn}
-use Rattle.sheet_stops.specs.StopLaws.{record-is}
+use Rattle.sheet.specs.ByBlocks.{record-is}
 use Rattle.sheet_stops.proofs.first_in.Statement.{statement}
 use Rattle.sheet_stops.proofs.first_in.Tie as tie
 

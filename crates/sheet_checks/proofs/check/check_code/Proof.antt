@@ -1,8 +1,6 @@
 -- `sheet_checks::check::check_code` meets its contract: a refusal is the answer, and an accepted check hands over to the next. Assumes nothing.
 use borrow.Author.Needs.{needs}
 use mathlib.Core.Path.{_≡_, sym, ap, ap₂, _∙_}
-use mathlib.Core.List.{List}
-use Prim.Native.Nat.{ℕ}
 use Rattle.base.specs.Lists.{firstBad}
 use Rattle.base.specs.RefusalLaws.{then-goes, then-assoc, refused-by, accepted-by, refused-not}
 use Rattle.stackless_bytecode.specs.Kinds.{at, stopOk}
