@@ -40,6 +40,7 @@ use Rattle.pages.specs.Code.{localsIn, codeText}
 use Rattle.pages.specs.Page.{blockLine, flowText, unnamedText, unnamedLabels, unnamedLine, setText, liveLine, liveText, rewrittenText, sections, pageBy, page}
 use Rattle.pages.specs.Size.{numberDigits, payloadDigits, codeBytes, blockLineBytes, unnamedBytes, flowBytes, setTextBytes, liveLineBytes, liveTextBytes, pageBytes}
 use Rattle.pages.specs.LineSizeLaws.{number-most, said-most, cond-most, marked-most, joins-most, locals-most, code-most}
+
 -- ---- the numbers of the flow table
 
 -- every number of a list is at most the highest

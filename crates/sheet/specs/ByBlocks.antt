@@ -19,6 +19,7 @@ use Rattle.stackless_bytecode.specs.Kinds.{at}
 use Rattle.sheet.specs.Layout.{decode, instructionAt, codeOf}
 use Rattle.sheet.specs.Shaped.{Shaped, code-at}
 use Rattle.sheet.specs.InBlock.{recordIn, handed, record-in}
+
 -- the record of place k, which the code hands on from its start a
 pub record-is : (p : List ℕ) (from k a : ℕ) → a ≡ recordsFrom + recordBytes * (k - from) → take (a + recordBytes - a) (drop a p) ≡ recordIn p from k
 record-is p from k a e =

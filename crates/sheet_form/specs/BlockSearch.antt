@@ -22,6 +22,7 @@ use Rattle.base.specs.Refusals.{foundOf}
 use Rattle.base.specs.RefusalLaws.{found-at, found-none}
 use Rattle.base.specs.declared.Found.{Found}
 use Rattle.base.specs.declared.Found.the-variants.{At, Nothing}
+
 -- whether the record of place k in the block with bytes p is right: `placeOk` of the sheet
 unfoldable pub inBlock : List ℕ → ℕ → ℕ → ℕ → Bool
 inBlock p from n k = cond (ltb k n) (recordOk (decode (recordIn p from k))) (zeros (recordIn p from k))

@@ -10,6 +10,7 @@ use Rattle.stackless_bytecode.specs.Kinds.{Call, Branch, Jump, isExit, isFlagge
 use Rattle.stackless_bytecode.specs.KindLaws.{flagged-goes}
 use Rattle.stackless_bytecode.specs.Successors.{ascending}
 use Rattle.stackless_control_flow_graph.specs.Arrays.{succsBy}
+
 module _ (r : Bytecode) (one two next : ℕ) (call : r .kind ≡ Call) where
   -- what `succsBy` gives of a Call
   call-is : {f x : Bool} → isFlagged r ≡ f → isExit r ≡ x → succsBy r one two next ≡ ascending (take (length (cond f (r .one ∷ []) [])) (one ∷ two ∷ []) ++ cond (not x) (next ∷ []) [])
