@@ -3,7 +3,7 @@ use mathlib.Core.List.{List·Memᴰ·cases-cons}
 use mathlib.Core.Logic.{⊎-elim}
 use Rattle.sheet.specs.Layout.{codeOf}
 use Rattle.stackless_bytecode.specs.Successors.{successors}
-use Rattle.stackless_control_flow_graph.specs.Arrays.{offsetsOf}
+use Rattle.stackless_control_flow_graph.specs.Arrays.{offsetsOf, putTwo, Visits}
 use Rattle.stackless_bytecode.specs.SlotLaws.{LabelsBelow}
 use mathlib.Core.Path.{_≡_, sym, _∙_}
 use Rattle.sheet.specs.Shaped.{record-inside}
@@ -26,14 +26,17 @@ usize-to-u16-requires c κs = omega (arith, checked-shaped (c .before .before .b
 below : (c : tie.After-instruction-at) → LabelsBelow (c .instruction-at .result)
 below c = record { one = search needs; two = search needs }
 
-returns : tie.Need-returns
-returns c =
-    let c8 = c .before .before .before .before .before .before .before .before in
-    let c13 = c8 .before .before .before .before .before in
-    let quiet = sym (c .before .before .before .before .before .before .before .is-branch .ensures) ∙ not-true _ (c .before .before .before .before .before .before .if1 .taken) in
-    rw (c .before .before .put-two .ensures)
-    (visit-quiet (c13 .pre .0) (c13 .args .k) (c13 .pre .1) (c8 .instruction-at .result) (c8 .instruction-at .ensures) (below c8) _ _ (c .before .before .before .single .result) (c13 .pre .2)
-    (next-on (c13 .pre .0) (c13 .args .k) (c13 .pre .1) (c8 .instruction-at .result) (c8 .instruction-at .ensures) (below c8) (c .before .before .before .single .result) _ (c .before .before .before .before .usize-to-u16 .ensures) (c .before .before .before .single .ensures) quiet) quiet)
+-- what does not end a block
+quiet : (c : tie.After-put-two) → let a = c .before .before .before .before .before .before .before .before .before .before .before .args in Visits (codeOf (a .sheet .now)) (a .k) (a .goes .now) (a .marks .now) (putTwo (a .goes .now) (a .k) (offsetsOf (c .before .single .result))) (a .marks .now)
+quiet c =
+    let c6 = c .before .before .before .before .before .before in
+    let c11 = c6 .before .before .before .before .before in
+    let is = sym (c .before .before .before .before .before .is-branch .ensures) ∙ not-true _ (c .before .before .before .before .if1 .taken) in
+    visit-quiet (c11 .pre .0) (c11 .args .k) (c11 .pre .1) (c6 .instruction-at .result) (c6 .instruction-at .ensures) (below c6) _ _ (c .before .single .result) (c11 .pre .2)
+    (next-on (c11 .pre .0) (c11 .args .k) (c11 .pre .1) (c6 .instruction-at .result) (c6 .instruction-at .ensures) (below c6) (c .before .single .result) _ (c .before .before .usize-to-u16 .ensures) (c .before .single .ensures) is) is
+
+quiet-visits : tie.Need-returns
+quiet-visits c = rw (c .before .before .put-two .ensures) (quiet (c .before .before))
 
 usize-to-u16-requires-2 : tie.Need-usize-to-u16-requires-2
 usize-to-u16-requires-2 c κs = omega (arith, checked-shaped (c .before .before .before .before .before .before .before .before .before .pre .0) .few)
@@ -58,8 +61,8 @@ mark-starts-requires c κs =
     let w = next-within (c16 .pre .0) (c16 .args .k) (c16 .pre .1) (c11 .instruction-at .result) (c11 .instruction-at .ensures) (below c11) (c5 .by-kind .result) (succs-are c5) in
     record { each = λ x i. ⊎-elim (λ e. omega arith) (λ t. omega (arith, w .each x t)) (List·Memᴰ·cases-cons i) }
 
-returns-2 : tie.Need-returns-2
-returns-2 c =
+branch-visits : tie.Need-returns-2
+branch-visits c =
     let c8 = c .before .before .before .before .before .before .before .before in
     let c14 = c .before .before .before .before .before .before .before .before .before .before .before .before .before .before in
     let c19 = c .before .before .before .before .before .before .before .before .before .before .before .before .before .before .before .before .before .before .before in
@@ -78,7 +81,7 @@ visit-spec =
     (λ c κs. search needs)
     (λ c κs. search needs)
     (λ c. search needs)
-    returns
+    quiet-visits
     (λ c. search needs)
     (λ c. search needs)
     (λ c. search needs)
@@ -91,4 +94,4 @@ visit-spec =
     mark-starts-requires
     (λ c. search needs)
     (λ c. search needs)
-    returns-2)
+    branch-visits)
