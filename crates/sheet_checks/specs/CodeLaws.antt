@@ -15,11 +15,11 @@ use Rattle.base.specs.Refusals.{Accepted, Refused, check, _then_}
 use Rattle.base.specs.RefusalLaws.{never, then-goes, then-stops, accepted-none, refused-at, found-at, found-none}
 use Rattle.stackless_bytecode.specs.declared.Bytecode.{Bytecode}
 use Rattle.stackless_bytecode.specs.Kinds.{at, stopOk, fallsThrough}
-use Rattle.sheet_checks.specs.declared.labels.Labels.{Labels}
-use Rattle.sheet_checks.specs.declared.labels.Labels.the-variants.{Count, Repeated}
+use Rattle.sheet_labels.specs.declared.labels.Labels.{Labels}
+use Rattle.sheet_labels.specs.declared.labels.Labels.the-variants.{Count, Repeated}
 use Rattle.sheet.specs.Layout.{localsOf, codeOf}
 use Rattle.sheet.specs.Checks.{localsOk, fresh, namesOk, checkCode}
-use Rattle.sheet_checks.specs.Labelled.{LabelsOf, LabelLists, Named, Labelled, repeated}
+use Rattle.sheet_labels.specs.Labelled.{LabelsOf, LabelLists, Named, Labelled, repeated}
 use Rattle.sheet.specs.Shaped.{Shaped, code-size}
 
 -- ---- checks 18 and 5 to 8

@@ -11,12 +11,7 @@ ghost use Rattle.stackless_bytecode.specs.Slots.{Resolved};
 ghost use Rattle.sheet.specs.Layout.{localsOf, codeOf};
 ghost use Rattle.sheet.specs.Checks.{localsOk, checkCode, checkSheet};
 ghost use Rattle.sheet.specs.Shaped.{Shaped};
-ghost use Rattle.sheet_checks.specs.Labelled.{Labelled};
-use crate::labels::Labels;
-use crate::labels::last_falls;
-use crate::labels::list_labels;
-use crate::labels::resolve;
-use crate::locals::first_bad_local;
+ghost use Rattle.sheet_labels.specs.Labelled.{Labelled};
 use base::Checked;
 use base::Found;
 use base::MAX_INSTRUCTIONS;
@@ -24,6 +19,11 @@ use base::Refusal;
 use base::SLOTS;
 use sheet::reader::u16_at;
 use sheet_form::form::check_form;
+use sheet_labels::labels::Labels;
+use sheet_labels::labels::last_falls;
+use sheet_labels::labels::list_labels;
+use sheet_labels::labels::resolve;
+use sheet_locals::locals::first_bad_local;
 use sheet_stops::first_bad_stop;
 
 fn check_stops(s: &[u8], n: usize) -> Checked
