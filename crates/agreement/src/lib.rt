@@ -1,4 +1,6 @@
 // Whether a call answers as it is stored. `want` is the whole array of which the front is lent: what the call writes, and behind it the fill. Assumes nothing.
+#![tactic(auto)]
+
 ghost use Rattle.std.specs.Prelude.{◌+◌, ◌*◌, ◌%◌, ◌/◌, ◌≤◌, ◌≡◌, length};
 ghost use Rattle.c_api.specs.Packed.{check_reply};
 ghost use Rattle.borrow_analysis.specs.Graph.{graph_input};
@@ -17,7 +19,7 @@ use c_api::{
 use check::same;
 
 // How much a case lends, and the result that is stored.
-#[derive(Drop)]
+#[derive(Clone, Copy)]
 pub struct StoredCase {
     pub lent: usize,
     pub result: u64,

@@ -1,4 +1,6 @@
 // The walk over the ancestors of dying nodes: a list that grows and shrinks, which is the path. Assumes nothing.
+#![tactic(auto)]
+
 ghost use Rattle.std.specs.Prelude.{◌≡◌, false, ◌+◌, ◌-◌, ◌/◌, ◌^◌, ◌<◌, ◌≤◌, length, get_or, set};
 ghost use Rattle.base.specs.Sizes.{max_locals, max_triples};
 ghost use Rattle.base.specs.Lists.{over};
@@ -22,20 +24,20 @@ use dataflow_domains::LiveVarState;
 pub mod chain; // chain.rt: the triples, chained by the node that they lead to
 
 // The nodes listed, and how many they are.
-#[derive(Drop)]
+#[derive(Clone, Copy)]
 pub struct Visited {
     pub nodes: LiveVarState,
     pub count: usize,
 }
 
 // The list's cursor: the list is in the first `len` places of a slice beside it.
-#[derive(Drop)]
+#[derive(Clone, Copy)]
 pub struct Path {
     pub len: usize,
 }
 
 // A state of the walk.
-#[derive(Drop)]
+#[derive(Clone, Copy)]
 pub struct Walk {
     pub visited: Visited,
     pub path: Path,

@@ -10,7 +10,7 @@ use base::width::u8_to_usize;
 use dataflow_domains::LiveVarState;
 
 // The numbers of a triple.
-#[derive(Drop)]
+#[derive(Clone, Copy)]
 pub struct Triple {
     pub parent: u32,
     pub child: u32,
@@ -47,7 +47,7 @@ pub fn child_at(triples: &[u32], i: usize) -> u8
 }
 
 // Its place in the list, its parent and its child.
-#[derive(Drop)]
+#[derive(Clone, Copy)]
 pub struct Lead {
     pub place: usize,
     pub parent: usize,

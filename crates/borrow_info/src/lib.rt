@@ -1,4 +1,6 @@
 // The questions to borrow graphs: in use, conditional and dying nodes. Assumes nothing.
+#![tactic(auto)]
+
 ghost use Rattle.std.specs.Prelude.{◌≡◌, cond, eqb, length, take};
 ghost use Rattle.base.specs.Refusals.{result_of, answer_of, output_after};
 ghost use Rattle.borrow_analysis.specs.Graph.{graph_input, graph_of};

@@ -1,4 +1,6 @@
 // The first_in work list: its cursor by value beside the slice of keys, and a receipt over sets in a slice of words.
+#![tactic(auto)]
+
 ghost use Rattle.std.specs.Prelude.{◌≡◌, true, ◌+◌, ◌*◌, ◌<◌, ◌≤◌, length};
 ghost use Rattle.base.specs.Sizes.{set_words};
 ghost use Rattle.dataflow_domains.specs.Sets.{mask};
@@ -7,14 +9,14 @@ ghost use Rattle.dataflow_analysis.specs.Queue.{waiting, taken_of, Queued, news_
 use dataflow_domains::{JoinResult, LiveVarState};
 
 // The keys wait at `head` and the `len` places from there on, in a slice beside it.
-#[derive(Drop)]
+#[derive(Clone, Copy)]
 pub struct Cursor {
     pub head: usize,
     pub len: usize,
 }
 
 // The first key and the cursor past it, or that none waits.
-#[derive(Drop)]
+#[derive(Clone, Copy)]
 pub enum FirstKey {
     Key(u16, Cursor),
     Empty,

@@ -1,2 +1,4 @@
 // What a label is in an accepted sheet. Assumes nothing.
+#![tactic(auto)]
+
 pub mod label; // label.rt: the call label

@@ -18,7 +18,7 @@ use stackless_bytecode::Bytecode;
 pub const RULE_SETS: usize = 3;
 
 // What an instruction does to the set behind it: `kills` go out and `gens` come in; of an Assign only where the set has one of `kills`.
-#[derive(Drop)]
+#[derive(Clone, Copy)]
 pub struct Rule {
     pub kills: LiveVarState,
     pub gens: LiveVarState,

@@ -29,14 +29,14 @@ pub const DROPPED: u8 = 1;
 pub const MERGED: u8 = 2;
 
 // The numbers that come next: a new label, and a new attribute id.
-#[derive(Drop)]
+#[derive(Clone, Copy)]
 pub struct Next {
     pub label: u32,
     pub attr: u32,
 }
 
 // What the new code has: kept instructions, and the numbers behind those of all new blocks.
-#[derive(Drop)]
+#[derive(Clone, Copy)]
 pub struct Counts {
     pub kept: usize,
     pub next: Next,

@@ -13,7 +13,7 @@ use sheet::reader;
 use stackless_bytecode::NO_LABEL;
 
 // What check 6 finds: how many Labels there are, or the first whose number an earlier one has.
-#[derive(Drop)]
+#[derive(Clone, Copy)]
 pub enum Labels {
     Count(usize),
     Repeated(usize),

@@ -1,4 +1,6 @@
 // Check 18: a Stop has no abort action. Assumes nothing.
+#![tactic(auto)]
+
 ghost use Rattle.std.specs.Prelude.{◌≡◌, ◌≤◌, length};
 ghost use Rattle.base.specs.Sizes.{block_bytes, record_bytes, block_records, max_instructions};
 ghost use Rattle.base.specs.Lists.{first_bad};

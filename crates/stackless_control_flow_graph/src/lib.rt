@@ -1,11 +1,13 @@
 // The blocks of a sheet's code, and their keys. Assumes nothing.
+#![tactic(auto)]
+
 pub mod next; // next.rt: the successors of an offset
 pub mod starts; // starts.rt: the successors of every offset, and where blocks start
 pub mod blocks; // blocks.rt: the blocks by offset
 pub mod keys; // keys.rt: the key of each block
 
 // The successors of an offset, or their keys: none, one or two, by ascending offset.
-#[derive(Drop)]
+#[derive(Clone, Copy)]
 pub struct Successors {
     pub count: usize,
     pub first: u16,
@@ -13,7 +15,7 @@ pub struct Successors {
 }
 
 // A block: its first offset and its last.
-#[derive(Drop)]
+#[derive(Clone, Copy)]
 pub struct Block {
     pub lower: usize,
     pub upper: usize,
