@@ -1,24 +1,28 @@
 // The pages of nine sheets of two blocks each, M1 to M6, one with an unknown kind, M2 with a Label that nobody names and one with a flagged Stop, one behind the other on standard input:
 // the output is compared with the pages in sheets/.
+#![tactic(auto)]
+
 use base::BLOCK_BYTES;
-use libc::{STDIN_FILENO, STDOUT_FILENO};
 use page::page::{PAGE_BYTES, put_page};
+use std::io;
+use streams::read_input;
 
 // Two blocks.
 const SHEET: usize = 2 * BLOCK_BYTES;
 
-fn next_page() {
+fn next_page(rt: &HostRuntime) -> io::Result<()> {
     let mut sheet = [0u8; SHEET];
     let mut text = [0u8; PAGE_BYTES];
-    let n = io::read_full(STDIN_FILENO, &mut sheet);
+    let n = read_input(&mut rt.stdin(), &mut sheet).count()?;
     let m = put_page(&sheet[..n], &mut text);
-    io::write_all(STDOUT_FILENO, &text[..m]);
+    rt.write_all(&text[..m])
 }
 
-fn main() {
+fn main(rt: HostRuntime) -> io::Result<()> {
     let mut i = 0u32;
     while i < 9 {
-        next_page();
+        next_page(&rt)?;
         i += 1;
     }
+    Ok(())
 }

@@ -1,27 +1,25 @@
 // livelist: reads a sheet on standard input, and prints its live sets and how many blocks were taken, or the refusal.
+#![tactic(auto)]
+
 use base::READ_BYTES;
-use libc::{STDERR_FILENO, STDOUT_FILENO};
 use live_text::livelist::{TEXT_BYTES, put_livelist};
 use streams::{Input, read_input};
 
 // Prints the text of a sheet.
-fn print(sheet: &[u8]) {
+fn print<R: Print + Eprint>(rt: &R, sheet: &[u8]) {
     let mut text = [0u8; TEXT_BYTES];
     let m = put_livelist(sheet, &mut text);
-    if !io::write_all(STDOUT_FILENO, &text[..m]) {
-        io::write_all(
-            STDERR_FILENO,
-            b"livelist: standard output cannot be written\n",
-        );
+    if rt.write_all(&text[..m]).is_err() {
+        let _ = rt.eprint("livelist: standard output cannot be written\n");
     }
 }
 
-fn main() {
+fn main(rt: HostRuntime) {
     let mut sheet = [0u8; READ_BYTES];
-    match read_input(&mut sheet) {
+    match read_input(&mut rt.stdin(), &mut sheet) {
         Input::Failed => {
-            io::write_all(STDERR_FILENO, b"livelist: standard input cannot be read\n");
+            let _ = rt.eprint("livelist: standard input cannot be read\n");
         }
-        Input::Bytes(n) => print(&sheet[..n]),
+        Input::Bytes(n) => print(&rt, &sheet[..n]),
     }
 }

@@ -1,13 +1,16 @@
 // replay: asks every call again what the original Rust was asked, and compares with the answers that were stored. FORMAT.txt has the file's layout.
+#![tactic(auto)]
+
 ghost use Rattle.std.specs.Prelude.{◌≡◌, length};
 
 mod calls; // calls.rt: each call beside a stored answer
 
 use crate::calls::{GRAPH_BYTES, ask};
-use libc::STDIN_FILENO;
+use std::io;
 use stored_cases::packed::{ROOM, TOO_LONG, fill_behind, unpack};
 use stored_cases::stored::{HEAD_BYTES, ROW_BYTES, Row, cases_in, row_of};
 use stored_cases::tally::{COUNTS, Came, count, print_counts, say};
+use streams::read_input;
 
 // The longest file.
 const FILE_BYTES: usize = 2097152;
@@ -53,26 +56,26 @@ fn replayed(file: &[u8], r: Row) -> Came {
 }
 
 // Every case of a file, counted, and a line for each that is not as it should be.
-fn replay(file: &[u8], counts: &mut [u32]) {
+fn replay(rt: &impl Print, file: &[u8], counts: &mut [u32]) -> io::Result<()> {
     let n = cases_in(file);
     if n == 0 {
-        say(counts, b"damaged\n");
-        return;
+        return say(rt, counts, b"damaged\n");
     }
     let mut k = 0;
     while k < n {
         let at = HEAD_BYTES + ROW_BYTES * k;
         let to = at + ROW_BYTES;
         let r = row_of(&file[at..to]);
-        count(counts, k, r.op, r.wrong, replayed(file, r));
+        count(rt, counts, k, r.op, r.wrong, replayed(file, r))?;
         k += 1;
     }
+    Ok(())
 }
 
-fn main() {
+fn main(rt: HostRuntime) -> io::Result<()> {
     let mut file = file_room();
     let mut counts = [0u32; COUNTS];
-    let n = io::read_full(STDIN_FILENO, &mut file);
-    replay(&file[..n], &mut counts);
-    print_counts(&counts);
+    let n = read_input(&mut rt.stdin(), &mut file).count()?;
+    replay(&rt, &file[..n], &mut counts)?;
+    print_counts(&rt, &counts)
 }

@@ -9,7 +9,7 @@ pub const HEAD_BYTES: usize = 16;
 pub const ROW_BYTES: usize = 40;
 
 // A case: its op, whether its answer was made wrong, how much is lent, the stored result, and where the three packed strings stand.
-#[derive(Drop)]
+#[derive(Clone, Copy)]
 pub struct Row {
     pub op: u8,
     pub wrong: bool,
