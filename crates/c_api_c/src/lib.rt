@@ -1,0 +1,154 @@
+// The calls that a marking service links, as C functions: those of c_api, under C's convention. Assumes nothing.
+#![tactic(auto)]
+
+ghost use Rattle.std.specs.Prelude.{◌≡◌, eqb, length, take};
+ghost use Rattle.base.specs.Refusals.{result_of, answer_of, output_after};
+ghost use Rattle.sheet.specs.Layout.{code_of};
+ghost use Rattle.stackless_control_flow_graph.specs.Blocks.{flow_reply};
+ghost use Rattle.stackless_control_flow_graph.specs.FlowMeaning.{FlowMeaning};
+ghost use Rattle.label.specs.LabelCall.{label_reply, LabelMeaning};
+ghost use Rattle.livevar_analysis.specs.Analysis.{live_reply};
+ghost use Rattle.livevar_analysis.specs.LiveCall.{LeastLive, TakenUntilEmpty};
+ghost use Rattle.class_set.specs.ClassSet.{sets_reply, answers_reply};
+ghost use Rattle.class_set.specs.ClassMeaning.{ClassMeaning};
+ghost use Rattle.livevar_transform.specs.Rewrite.{rewrite_reply};
+ghost use Rattle.livevar_transform.specs.RewriteAccepted.{AcceptedRewriting};
+ghost use Rattle.eliminate_unused_vars.specs.Renumber.{renumber_reply};
+ghost use Rattle.eliminate_unused_vars.specs.Renumbered.{Renumbered};
+ghost use Rattle.borrow_analysis.specs.Graph.{graph_input, graph_of};
+ghost use Rattle.borrow_analysis.specs.Borrows.{in_use_reply, conditional_reply, dying_reply};
+ghost use Rattle.borrow_analysis.specs.Meaning.{InUse, Conditional, DyingList, Decides};
+ghost use Rattle.listing.specs.Lines.{livelist_reply};
+ghost use Rattle.pages.specs.Page.{page_reply};
+ghost use Rattle.c_api.specs.Packed.{packed, check_reply};
+
+// Checks 1 to 4, 18 and 5 to 8 of a sheet: 0 where they accept.
+#[unsafe(no_mangle)]
+pub extern "C" fn sorzibelu_check(sheet: &[u8]) -> u64
+    ensures result { result ≡ packed (result_of (check_reply sheet.now)) }
+{
+    c_api::sorzibelu_check(sheet)
+}
+
+// How many blocks, and six numbers for each at the front of `table`.
+#[unsafe(no_mangle)]
+pub extern "C" fn sorzibelu_flow(sheet: &[u8], table: &mut [u16]) -> u64
+    ensures result { result ≡ packed (result_of (flow_reply sheet.now (length table.old))) }
+    ensures written { table.new ≡ output_after (flow_reply sheet.now (length table.old)) table.old }
+    ensures means { (result_of (flow_reply sheet.now (length table.old))).number ≡ 0 → FlowMeaning (code_of sheet.now) (result_of (flow_reply sheet.now (length table.old))).value table.new }
+{
+    c_api::sorzibelu_flow(sheet, table)
+}
+
+// What a label is in the code: 65,536 times the way, and the offset.
+#[unsafe(no_mangle)]
+pub extern "C" fn sorzibelu_label(sheet: &[u8], label: u32) -> u64
+    ensures result { result ≡ packed (result_of (label_reply sheet.now label)) }
+    ensures means { (result_of (label_reply sheet.now label)).number ≡ 0 → LabelMeaning (code_of sheet.now) label (result_of (label_reply sheet.now label)).value }
+{
+    c_api::sorzibelu_label(sheet, label)
+}
+
+// How many blocks were taken, and the sets before and after each instruction at the front of `sets`.
+#[unsafe(no_mangle)]
+pub extern "C" fn sorzibelu_live(sheet: &[u8], sets: &mut [u8]) -> u64
+    ensures result { result ≡ packed (result_of (live_reply sheet.now (length sets.old))) }
+    ensures written { sets.new ≡ output_after (live_reply sheet.now (length sets.old)) sets.old }
+    ensures least { (result_of (live_reply sheet.now (length sets.old))).number ≡ 0 → LeastLive sheet.now sets.new }
+    ensures counted { (result_of (live_reply sheet.now (length sets.old))).number ≡ 0 → TakenUntilEmpty sheet.now (result_of (live_reply sheet.now (length sets.old))).value }
+{
+    c_api::sorzibelu_live(sheet, sets)
+}
+
+// How many sheets a class set has, the sets of each at the front of its own bytes of `sets`, and its number, place and count in `answers`.
+#[unsafe(no_mangle)]
+pub extern "C" fn sorzibelu_live_class(sheets: &[u8], sets: &mut [u8], answers: &mut [u32]) -> u64
+    ensures result { result ≡ packed (result_of (sets_reply sheets.now sets.old (length answers.old))) }
+    ensures written { sets.new ≡ output_after (sets_reply sheets.now sets.old (length answers.old)) sets.old }
+    ensures answered { answers.new ≡ output_after (answers_reply sheets.now (length sets.old) (length answers.old)) answers.old }
+    ensures means { (result_of (sets_reply sheets.now sets.old (length answers.old))).number ≡ 0 → ClassMeaning sheets.now sets.old answers.old sets.new answers.new }
+{
+    c_api::sorzibelu_live_class(sheets, sets, answers)
+}
+
+// How many bytes the rewritten sheet has, and the sheet at the front of `out`.
+#[unsafe(no_mangle)]
+pub extern "C" fn sorzibelu_rewrite(sheet: &[u8], out: &mut [u8]) -> u64
+    ensures result { result ≡ packed (result_of (rewrite_reply sheet.now (length out.old))) }
+    ensures written { out.new ≡ output_after (rewrite_reply sheet.now (length out.old)) out.old }
+    ensures accepted { (result_of (rewrite_reply sheet.now (length out.old))).number ≡ 0 → AcceptedRewriting sheet.now (take (result_of (rewrite_reply sheet.now (length out.old))).value out.new) }
+{
+    c_api::sorzibelu_rewrite(sheet, out)
+}
+
+// How many bytes the renumbered sheet has, and the sheet at the front of `out`.
+#[unsafe(no_mangle)]
+pub extern "C" fn sorzibelu_renumber(sheet: &[u8], out: &mut [u8]) -> u64
+    ensures result { result ≡ packed (result_of (renumber_reply sheet.now (length out.old))) }
+    ensures written { out.new ≡ output_after (renumber_reply sheet.now (length out.old)) out.old }
+    ensures renumbered { (result_of (renumber_reply sheet.now (length out.old))).number ≡ 0 → Renumbered sheet.now (take (result_of (renumber_reply sheet.now (length out.old))).value out.new) }
+{
+    c_api::sorzibelu_renumber(sheet, out)
+}
+
+// Whether a node is in use: 1 or 0.
+#[unsafe(no_mangle)]
+pub extern "C" fn sorzibelu_in_use(nodes: u32, live: u64, triples: &[u32], node: u32) -> u64
+    ensures result { result ≡ packed (result_of (in_use_reply (graph_input nodes live triples.now) node)) }
+    ensures means { (result_of (in_use_reply (graph_input nodes live triples.now) node)).number ≡ 0 → Decides (eqb (result_of (in_use_reply (graph_input nodes live triples.now) node)).value 1) (InUse (graph_of (graph_input nodes live triples.now)) node) }
+{
+    c_api::sorzibelu_in_use(nodes, live, triples, node)
+}
+
+// Whether a node is conditional: 1 or 0.
+#[unsafe(no_mangle)]
+pub extern "C" fn sorzibelu_conditional(nodes: u32, live: u64, triples: &[u32], node: u32) -> u64
+    ensures result { result ≡ packed (result_of (conditional_reply (graph_input nodes live triples.now) node)) }
+    ensures means { (result_of (conditional_reply (graph_input nodes live triples.now) node)).number ≡ 0 → Decides (eqb (result_of (conditional_reply (graph_input nodes live triples.now) node)).value 1) (Conditional (graph_of (graph_input nodes live triples.now)) node) }
+{
+    c_api::sorzibelu_conditional(nodes, live, triples, node)
+}
+
+// How many nodes die, and each as one byte of `out`.
+#[unsafe(no_mangle)]
+pub extern "C" fn sorzibelu_dying(
+    nodes: u32,
+    live: u64,
+    triples: &[u32],
+    next_nodes: u32,
+    next_live: u64,
+    next_triples: &[u32],
+    out: &mut [u8],
+) -> u64
+    ensures result { result ≡ packed (result_of (dying_reply (graph_input nodes live triples.now) (graph_input next_nodes next_live next_triples.now) (length out.old))) }
+    ensures written { out.new ≡ output_after (dying_reply (graph_input nodes live triples.now) (graph_input next_nodes next_live next_triples.now) (length out.old)) out.old }
+    ensures means { (result_of (dying_reply (graph_input nodes live triples.now) (graph_input next_nodes next_live next_triples.now) (length out.old))).number ≡ 0 → DyingList (graph_of (graph_input nodes live triples.now)) (graph_of (graph_input next_nodes next_live next_triples.now)) (take (result_of (dying_reply (graph_input nodes live triples.now) (graph_input next_nodes next_live next_triples.now) (length out.old))).value out.new) }
+{
+    c_api::sorzibelu_dying(
+        nodes,
+        live,
+        triples,
+        next_nodes,
+        next_live,
+        next_triples,
+        out,
+    )
+}
+
+// How many bytes the text of livelist has, and the text at the front of `out`.
+#[unsafe(no_mangle)]
+pub extern "C" fn sorzibelu_livelist(sheet: &[u8], out: &mut [u8]) -> u64
+    ensures result { result ≡ packed (result_of (livelist_reply sheet.now (length out.old))) }
+    ensures written { out.new ≡ output_after (livelist_reply sheet.now (length out.old)) out.old }
+{
+    c_api::sorzibelu_livelist(sheet, out)
+}
+
+// How many bytes the page of a sheet has, and the page at the front of `out`.
+#[unsafe(no_mangle)]
+pub extern "C" fn sorzibelu_page(sheet: &[u8], out: &mut [u8]) -> u64
+    ensures result { result ≡ packed (result_of (page_reply sheet.now (length out.old))) }
+    ensures written { out.new ≡ output_after (page_reply sheet.now (length out.old)) out.old }
+{
+    c_api::sorzibelu_page(sheet, out)
+}
