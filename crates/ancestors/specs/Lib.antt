@@ -4,7 +4,4 @@ pub mod Ancestors
 pub mod Chains
 pub mod Walking
 -- Laws.
-pub mod StepLaws
 pub mod ChainLaws
-pub mod StateLaws
-pub mod WalkingLaws

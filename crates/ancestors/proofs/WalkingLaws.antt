@@ -33,7 +33,7 @@ use Rattle.ancestors.specs.Chains.{parent_at, child_at, NextFrom, Firsts}
 use Rattle.ancestors.specs.Ancestors.{end_of, put, take_off, passed_over, first_new}
 use Rattle.ancestors.specs.Walking.{StateBelow, state_of, resting, rest_from, Scanned, ScansOn, Kept, Going, PutOn, Stepped, WalkSoFar}
 use Rattle.ancestors.specs.ChainLaws.{set_each}
-use Rattle.ancestors.specs.StepLaws.{passed_more, step_off, step_on, rest_step, rest_none, rest_put}
+use Rattle.ancestors.proofs.StepLaws.{passed_more, step_off, step_on, rest_step, rest_none, rest_put}
 
 -- ---- the scan
 

@@ -25,7 +25,7 @@ use Rattle.borrow_analysis.specs.DyingLaws.{list_once, over_same}
 use Rattle.borrow_analysis.specs.MeaningLaws.{parents_lt, live_lt}
 use Rattle.ancestors.specs.Ancestors.{WalkState, at_rest, end_of, put, take_off, walk, used_in, listed_from, Reached, begin, start, next_step, InOrder, DyingWalk}
 use Rattle.ancestors.specs.Walking.{StateBelow}
-use Rattle.ancestors.specs.StepLaws.{first_new_lem, put_below, off_below, by_step, walk_rest, walk_visits}
+use Rattle.ancestors.proofs.StepLaws.{first_new_lem, put_below, off_below, by_step, walk_rest, walk_visits}
 
 -- the front of a list that has each node once has each once
 distinct_front : (n : ℕ) (xs : List ℕ) → Distinct xs → Distinct (take n xs)

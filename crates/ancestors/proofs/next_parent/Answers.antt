@@ -1,0 +1,16 @@
+use borrow.Author.Rules.{rules}
+use borrow.Author.Tests.{not-true, not-false}
+use native.Mathlib.Omega.{arith}
+use mathlib.Core.Path.{sym, ap, ◌∙◌}
+use Prim.Native.Nat.{◌-◌}
+use Rattle.dataflow_domains.specs.Sets.{mask}
+use Rattle.ancestors.specs.Ancestors.{passed_over}
+use Rattle.ancestors.specs.Walking.{ScansOn}
+use Rattle.ancestors.specs.ChainLaws.{next_of}
+use Rattle.ancestors.proofs.WalkingLaws.{scans_none, scans_more}
+use Rattle.ancestors.proofs.next_parent.Goals as goal
+
+pub loop-i-preserved : goal.loop-i-preserved
+loop-i-preserved c =
+    scans_more c.loop-i.invariant c.loop-i-test.true (ap (passed_over _ _) (sym c.parent_at.ensures.0) ∙ sym c.passed_over.ensures ∙ c.if-not-passed_over.false)
+    (next_of _ c.requires.1 c.loop-i-test.true) c.u16_to_usize-i.ensures.0
