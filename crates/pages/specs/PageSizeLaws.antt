@@ -77,6 +77,7 @@ module _ (code : List Bytecode) (sound : Sound code) (few : length code ≤ max_
   row_low l x h (Memᴰ.tail (Memᴰ.tail (Memᴰ.tail (Memᴰ.head e)))) = omega (arith, e, low_at _ (succ_low (upper_of code l)) 0)
   row_low l x h (Memᴰ.tail (Memᴰ.tail (Memᴰ.tail (Memᴰ.tail (Memᴰ.head e))))) = omega (arith, e, low_at _ (succ_low (upper_of code l)) 1)
   row_low l x h (Memᴰ.tail (Memᴰ.tail (Memᴰ.tail (Memᴰ.tail (Memᴰ.tail (Memᴰ.head e)))))) = omega (arith, e)
+  row_low l x h (Memᴰ.tail (Memᴰ.tail (Memᴰ.tail (Memᴰ.tail (Memᴰ.tail (Memᴰ.tail e)))))) = elim e [ ]
 
   table_low : Low (flow_table code)
   unfolding flow_table

@@ -1,0 +1,17 @@
+use Rattle.agreement.specs.PairLaws.{pairs_more, pairs_all, inside_set}
+use Rattle.base.specs.WriteLaws.{wrote}
+use Rattle.agreement.specs.Agree.{pairs}
+use Prim.Native.Nat.{◌+◌, ◌*◌, ◌-◌, ◌≤◌}
+use mathlib.Core.Path.{◌≡◌}
+use lib.ListN.{length}
+use borrow.Author.Rules.{rules}
+use native.Mathlib.Omega.{arith}
+use Rattle.agreement.proofs.bytes_of.Goals as goal
+
+pub loop-i-preserved : goal.loop-i-preserved
+loop-i-preserved c =
+    (search rules, pairs_more c.args.out.now c.args.table.now c.loop-i.out c.loop-i.i c.low.result c.high.result (search rules) c.requires c.loop-i.invariant.1 c.low.ensures c.high.ensures, search rules)
+
+pub returns : goal.returns
+returns c =
+    pairs_all c.args.out.now c.args.table.now c.loop-i.out c.loop-i.i (omega arith) c.loop-i.invariant.1

@@ -1,0 +1,13 @@
+use Rattle.agreement.specs.PairLaws.{pairs_more, pairs_all, inside_set}
+use Rattle.base.specs.WriteLaws.{wrote}
+use Rattle.agreement.specs.Agree.{pairs}
+use Prim.Native.Nat.{◌+◌, ◌*◌, ◌-◌, ◌≤◌}
+use mathlib.Core.Path.{◌≡◌}
+use lib.ListN.{length}
+use Rattle.agreement.proofs.bytes_of.Given as goal
+
+abbrev pub invariant-loop-i : goal.invariant-loop-i
+invariant-loop-i l = (l.i ≤ length l.table) × (l.out ≡ wrote l.initial.out (pairs l.table) (2 * l.i)) × (length l.out ≡ length l.initial.out)
+
+abbrev pub decreases-loop-i : goal.decreases-loop-i
+decreases-loop-i l = length l.table - l.i

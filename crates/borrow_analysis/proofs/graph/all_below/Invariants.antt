@@ -1,0 +1,14 @@
+use mathlib.Core.Path.{sym, ◌∙◌, subst}
+use Prim.Native.Nat.{ℕ, ◌<◌}
+use borrow.Author.Tests.{eqb-true, eqb-false, not-true, not-false}
+use Rattle.dataflow_domains.specs.MemberLaws.{walk_falls}
+use Rattle.dataflow_domains.specs.Sets.{mask}
+use Rattle.borrow_analysis.specs.GraphParts.{KeptFrom}
+use Rattle.borrow_analysis.specs.GraphLaws.{kept_all, kept_less, kept_none, kept_one}
+use Rattle.borrow_analysis.proofs.graph.all_below.Given as goal
+
+abbrev pub invariant-loop-left : goal.invariant-loop-left
+invariant-loop-left l = KeptFrom l.count (mask l.initial.left) (mask l.left)
+
+abbrev pub decreases-loop-left : goal.decreases-loop-left
+decreases-loop-left l = mask l.left

@@ -1,0 +1,24 @@
+use mathlib.Core.Path.{◌≡◌, sym, ap, ◌∙◌}
+use Prim.Native.Nat.{ℕ, ◌+◌, ◌-◌, ◌≤◌}
+use native.Mathlib.Nat.{sub-zero}
+use borrow.Author.Tests.{eqb-true}
+use Rattle.dataflow_domains.specs.Sets.{mask}
+use Rattle.borrow_analysis.specs.Graph.{triples_of}
+use Rattle.borrow_analysis.specs.Borrows.{upward}
+use Rattle.borrow_analysis.specs.UpwardLaws.{upward_fixed, upward_more, upward_end}
+use borrow.Author.Rules.{rules}
+use native.Mathlib.Omega.{arith}
+use Rattle.borrow_info.proofs.upward.above.Goals as goal
+
+pub returns-then-same : goal.returns-then-same
+returns-then-same c = sym (c.loop-k.invariant.1 ∙ upward_fixed _ _ _ (sym c.parents_in-grown.ensures ∙ eqb-true _ _ (sym c.same.ensures ∙ c.if-same.true)))
+
+pub loop-k-preserved : goal.loop-k-preserved
+loop-k-preserved c =
+    let a = c.args in (
+      omega arith,
+      c.loop-k.invariant.1 ∙ upward_more _ _ _ _ c.loop-k-test.true ∙ ap (upward (a.times - (c.loop-k.k + 1)) (triples_of a.triples.now)) (sym c.parents_in-grown.ensures),
+    )
+
+pub returns : goal.returns
+returns c = sym (c.loop-k.invariant.1 ∙ upward_end _ _ _ _ c.loop-k-test.false)

@@ -1,0 +1,13 @@
+use mathlib.Core.Path.{◌≡◌, sym, ap, ◌∙◌}
+use mathlib.Core.List.{List}
+use Prim.Native.Nat.{ℕ, ◌-◌, ◌≤◌}
+use lib.ListN.{get_or}
+use Rattle.class_set.specs.ClassSet.{blocks_in}
+use Rattle.class_set.specs.CutLaws.{first_from, first_here, starts_pass, starts_end}
+use Rattle.class_set.proofs.cut.next_start.Given as goal
+
+abbrev pub invariant-loop-b : goal.invariant-loop-b
+invariant-loop-b l = (l.from ≤ l.b) × (l.b ≤ l.blocks) × (first_from l.s l.from ≡ first_from l.s l.b)
+
+abbrev pub decreases-loop-b : goal.decreases-loop-b
+decreases-loop-b l = l.blocks - l.b

@@ -1,0 +1,10 @@
+use mathlib.Core.Path.{ap}
+use Prim.Native.Nat.{ℕ}
+use lib.Dec.{eqb}
+use borrow.Author.Rules.{rules}
+use Rattle.class_set.specs.ClassSet.{starts_at}
+use Rattle.class_set.proofs.cut.starts_at.Goals as goal
+
+pub returns : goal.returns
+unfolding starts_at
+returns c = ap (λ (n : ℕ). eqb n 0) c.u16_at.ensures

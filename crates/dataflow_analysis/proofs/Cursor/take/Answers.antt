@@ -1,0 +1,15 @@
+use mathlib.Core.Path.{sym, ap}
+use mathlib.Core.List.{List}
+use Prim.Native.Nat.{ℕ}
+use native.Mathlib.Omega.{arith}
+use borrow.Author.Rules.{rules}
+use Rattle.dataflow_analysis.specs.Queue.{taken_of}
+use Rattle.dataflow_analysis.specs.QueueLaws.{list_none, take_first}
+use Rattle.dataflow_analysis.proofs.Cursor.take.Goals as goal
+
+pub returns-then-len-eq0 : goal.returns-then-len-eq0
+returns-then-len-eq0 c = let a = c.args in sym (ap (λ (l : List ℕ). taken_of l a.self) (list_none a.q.now a.self c.if-len-eq0.true))
+
+pub returns : goal.returns
+returns c = let a = c.args in
+    sym (ap (λ (l : List ℕ). taken_of l a.self) (take_first a.q.now a.self (omega arith) (omega arith)))

@@ -1,0 +1,19 @@
+use mathlib.Core.Path.{sym, ap, ◌∙◌}
+use Prim.Native.Nat.{ℕ, ◌^◌, ◌/◌, ◌%◌}
+use Rattle.dataflow_domains.specs.Mask.{holds, bit}
+use lib.Bits.{and_mask}
+use lib.Dec.{eqb}
+use Rattle.dataflow_domains.specs.Sets.{mask}
+use Rattle.dataflow_domains.specs.SetLaws.{Array, array}
+use lib.ListN.{get_or}
+use Rattle.dataflow_domains.specs.WordLaws.{mask_holds}
+use native.Mathlib.Omega.{arith}
+use borrow.Author.Rules.{rules}
+use Rattle.dataflow_domains.proofs.LiveVarState.has.Goals as goal
+
+pub returns : goal.returns
+unfolding mask holds bit
+returns c = let a = c.args in
+    let known : Array a.self.livevars = array _ (search rules) (λ i. search rules) in
+    ap (λ (x : ℕ). eqb x 1) (and_mask (get_or a.self.livevars (a.local / 64) 0 / 2 ^ (a.local % 64)) 1)
+    ∙ sym (mask_holds 64 (omega arith) a.self.livevars a.local known.words)

@@ -1,0 +1,19 @@
+use mathlib.Core.Path.{◌≡◌, refl, ap, ◌∙◌}
+use mathlib.Core.List.{◌++◌}
+use lib.Seq.{length-take-le}
+use Rattle.base.specs.Bytes.{bytes_of}
+use Rattle.base.specs.WriteLaws.{part_back}
+use Rattle.dataflow_domains.specs.Sets.{mask}
+use Rattle.dataflow_domains.specs.ByteWords.{each_more, each_length, all_bytes}
+use Prim.Native.Nat.{ℕ, ◌+◌, ◌-◌, ◌*◌, ◌≤◌}
+use lib.ListN.{length, get_or, take, drop}
+use Rattle.base.specs.Sizes.{set_words}
+use Rattle.dataflow_domains.specs.Words.{bytes_each}
+use Rattle.dataflow_domains.specs.SetLaws.{Array, array}
+use Rattle.dataflow_domains.proofs.LiveVarState.store_bytes.Given as goal
+
+abbrev pub invariant-loop-j : goal.invariant-loop-j
+invariant-loop-j l = (l.j ≤ set_words) × (length l.out ≡ length l.initial.out) × (l.out ≡ bytes_each 8 (take l.j l.a) ++ drop (8 * l.j) l.initial.out)
+
+abbrev pub decreases-loop-j : goal.decreases-loop-j
+decreases-loop-j l = set_words - l.j

@@ -1,0 +1,14 @@
+use mathlib.Core.Path.{refl}
+use Prim.Native.Nat.{ℕ, ◌<◌, ◌^◌}
+use lib.Count.{count_trailing_zeros, trailing_le}
+use Rattle.dataflow_domains.specs.MemberLaws.{trailing_lowest, lowest_lt}
+use native.Mathlib.Omega.{arith}
+use borrow.Author.Rules.{rules}
+use Rattle.dataflow_domains.proofs.lowest_in.Goals as goal
+
+below : (n : ℕ) → 0 < n → n < 2 ^ 64 → count_trailing_zeros 64 n < 64
+below n p h = lowest_lt n (count_trailing_zeros 64 n) 64 (trailing_lowest 64 n p h) h
+
+pub returns : goal.returns
+returns c = let w = c.args.word in
+    (refl, trailing_lowest 64 w (omega arith) (omega arith), below w (omega arith) (omega arith))

@@ -1,0 +1,16 @@
+use mathlib.Core.Path.{◌∙◌}
+use Prim.Native.Nat.{◌^◌, ◌%◌}
+use native.Mathlib.Nat.{one-mul}
+use lib.Pow.{shl_exact}
+use Rattle.dataflow_domains.specs.SetLaws.{lone_here, lone_else}
+use native.Mathlib.Omega.{arith}
+use borrow.Author.Rules.{rules}
+use Rattle.dataflow_domains.proofs.word_of.Goals as goal
+
+pub returns-then-j-at : goal.returns-then-j-at
+returns-then-j-at c = let a = c.args in
+    shl_exact 1 (a.local % 64) 64 (omega arith) (omega arith) ∙ one-mul (2 ^ (a.local % 64)) ∙ lone_here a.local a.j (omega arith) (omega arith)
+
+-- (at one word it is found without this)
+pub returns : goal.returns
+returns c = lone_else c.args.local c.args.j (λ e. c.if-j-at.false (omega arith))

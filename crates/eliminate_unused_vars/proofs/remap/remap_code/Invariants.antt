@@ -1,0 +1,18 @@
+use mathlib.Core.Path.{◌≡◌, refl}
+use Prim.Native.Nat.{◌+◌, ◌*◌, ◌-◌, ◌≤◌, ◌<◌}
+use lib.ListN.{length, take}
+use Rattle.base.specs.Sizes.{record_bytes, max_instructions}
+use Rattle.sheet.specs.Layout.{count_of}
+use Rattle.sheet.specs.ValidLaws.{accepted_valid}
+use Rattle.sheet_writer.specs.Written.{placed}
+use Rattle.sheet_writer.specs.RecordsLaws.{placed_none}
+use Rattle.livevar_analysis.specs.InputLaws.{record_inside}
+use Rattle.eliminate_unused_vars.specs.Renumber.{renumbered_code}
+use Rattle.eliminate_unused_vars.specs.RemapCodeLaws.{at_named, renumbered_next, renumbered_all}
+use Rattle.eliminate_unused_vars.proofs.remap.remap_code.Given as goal
+
+abbrev pub invariant-loop-k : goal.invariant-loop-k
+invariant-loop-k l = (l.k ≤ l.n) × (length l.flat ≡ length l.initial.flat) × (l.flat ≡ placed (take l.k (renumbered_code l.s)) l.initial.flat)
+
+abbrev pub decreases-loop-k : goal.decreases-loop-k
+decreases-loop-k l = l.n - l.k

@@ -1,0 +1,14 @@
+use mathlib.Core.Path.{sym, ◌∙◌}
+use borrow.Author.Rules.{rules}
+use Rattle.stackless_control_flow_graph.specs.RowLaws.{next_exit, next_other}
+use Rattle.flow_table.proofs.rows.next_keys.Goals as goal
+
+pub returns-then-is_exit : goal.returns-then-is_exit
+returns-then-is_exit c =
+    let a = c.args in
+    c.single.ensures ∙ sym (next_exit a.sheet.now a.goes.now a.keys.now a.u c.instruction_at-r.ensures (sym c.is_exit.ensures ∙ c.if-is_exit.true))
+
+pub returns : goal.returns
+returns c =
+    let a = c.args in
+    c.successor_keys.ensures ∙ sym (next_other a.sheet.now a.goes.now a.keys.now a.u c.instruction_at-r.ensures (sym c.is_exit.ensures ∙ c.if-is_exit.false))

@@ -1,0 +1,17 @@
+use lib.Seq.{length-take-le}
+use Prim.Native.Nat.{◌+◌, ◌-◌, ◌*◌, ◌≤◌}
+use mathlib.Core.List.{◌++◌}
+use mathlib.Core.Path.{◌≡◌, refl, ap, ◌∙◌}
+use lib.ListN.{length, take, drop, length-drop}
+use Rattle.base.specs.Lists.{gather}
+use Rattle.base.specs.Sizes.{row_numbers}
+use Rattle.stackless_control_flow_graph.specs.Arrays.{row_in}
+use Rattle.stackless_control_flow_graph.specs.KeyLaws.{block_lower, block_near}
+use Rattle.stackless_control_flow_graph.specs.RowLaws.{rows_kept, rows_more}
+use Rattle.flow_table.proofs.rows.write_rows.Given as goal
+
+abbrev pub invariant-loop-b : goal.invariant-loop-b
+invariant-loop-b l = (l.b ≤ l.m) × (l.table ≡ gather (row_in l.sheet l.goes l.uppers l.keys) (take l.b l.lowers) ++ drop (row_numbers * l.b) l.initial.table)
+
+abbrev pub decreases-loop-b : goal.decreases-loop-b
+decreases-loop-b l = l.m - l.b

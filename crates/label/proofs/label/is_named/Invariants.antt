@@ -1,0 +1,16 @@
+use mathlib.Core.Path.{◌≡◌, sym, ap, ◌∙◌}
+use Prim.Native.Nat.{◌-◌}
+use lib.ListN.{drop}
+use Rattle.base.specs.Lists.{gather, has}
+use Rattle.stackless_bytecode.specs.declared.Bytecode.{Bytecode}
+use Rattle.stackless_bytecode.specs.Kinds.{branch_dests}
+use Rattle.sheet.specs.Layout.{code_of}
+use Rattle.sheet.specs.Shaped.{record_inside, code_at, code_size}
+use Rattle.label.specs.LabelLaws.{names_here, names_on, names_end}
+use Rattle.label.proofs.label.is_named.Given as goal
+
+abbrev pub invariant-loop-k : goal.invariant-loop-k
+invariant-loop-k l = has l.l (gather branch_dests (drop l.from (code_of l.s))) ≡ has l.l (gather branch_dests (drop l.k (code_of l.s)))
+
+abbrev pub decreases-loop-k : goal.decreases-loop-k
+decreases-loop-k l = l.n - l.k

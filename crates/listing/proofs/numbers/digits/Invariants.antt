@@ -1,0 +1,12 @@
+use mathlib.Core.Path.{◌≡◌, ap}
+use Prim.Native.Nat.{◌+◌, ◌≤◌}
+use lib.ListN.{length}
+use Rattle.listing.specs.Words.{decimal}
+use Rattle.listing.specs.NumberLaws.{decimal_small, decimal_short, digit_less}
+use Rattle.listing.proofs.numbers.digits.Given as goal
+
+abbrev pub invariant-loop-y : goal.invariant-loop-y
+invariant-loop-y l = (l.y ≤ l.x) × (l.n + length (decimal l.y) ≡ length (decimal l.x) + 1)
+
+abbrev pub decreases-loop-y : goal.decreases-loop-y
+decreases-loop-y l = l.y

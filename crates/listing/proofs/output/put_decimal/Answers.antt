@@ -1,0 +1,8 @@
+use borrow.Author.Rules.{rules}
+use native.Mathlib.Omega.{arith}
+use Rattle.listing.specs.NumberLaws.{decimal_short}
+use Rattle.listing.specs.OutputLaws.{wrote_as, put_digits, digits_long}
+use Rattle.listing.proofs.output.put_decimal.Goals as goal
+
+pub put_decimal-n-requires : goal.put_decimal-n-requires
+put_decimal-n-requires c = omega (arith, decimal_short 9 c.args.x (omega arith))

@@ -1,0 +1,23 @@
+use mathlib.Core.Path.{◌≡◌, subst}
+use Prim.Native.Nat.{◌-◌, ◌≤◌, ◌<◌}
+use native.Mathlib.Omega.{arith}
+use lib.ListN.{length}
+use borrow.Author.Rules.{rules}
+use Rattle.base.specs.Sizes.{answer_numbers}
+use Rattle.class_set.specs.ClassSet.{blocks_in, sheets_in}
+use Rattle.class_set.specs.CutLaws.{start_inside}
+use Rattle.class_set.specs.ClassLaws.{Answered, answered_none, next_is, lent_long, answered_more}
+use Rattle.live_class.proofs.live_class.live_sheets.Goals as goal
+
+pub loop-k-init : goal.loop-k-init
+loop-k-init c = (search rules, search rules, search rules, search rules, answered_none _ _ _ _ c.next_start-start.ensures.first)
+
+pub next_start-next-requires : goal.next_start-next-requires
+next_start-next-requires c = let l = c.loop-k in omega (arith, l.invariant.4.begins, start_inside c.args.sheets.now l.k (omega (arith, c.requires.0)))
+
+pub loop-k-preserved : goal.loop-k-preserved
+loop-k-preserved c =
+    let l = c.loop-k in
+    let here : l.k < sheets_in c.args.sheets.now = omega (arith, c.requires.0) in
+    let is = next_is c.args.sheets.now l.start _ l.k here l.invariant.4.begins c.next_start-next.ensures.first in
+    (omega arith, search rules, search rules, search rules, answered_more _ _ _ _ _ _ _ l.k here (omega (arith, c.requires.0, c.requires.1)) l.invariant.4 is _ _ c.live_sheet.ensures.sets_after c.live_sheet.ensures.answer_after)

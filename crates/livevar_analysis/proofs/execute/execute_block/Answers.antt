@@ -1,0 +1,21 @@
+use mathlib.Core.Path.{◌≡◌, sym, ap, ◌∙◌}
+use mathlib.Core.List.{List}
+use Prim.Native.Nat.{ℕ, suc, ◌+◌, ◌-◌, ◌≤◌, ◌<◌}
+use native.Mathlib.Numerals.{add-one}
+use lib.ListN.{length, take, drop}
+use Rattle.dataflow_domains.specs.Sets.{mask}
+use Rattle.stackless_bytecode.specs.declared.Bytecode.{Bytecode}
+use Rattle.livevar_analysis.specs.Analysis.{execute_all}
+use Rattle.livevar_analysis.specs.Rules.{Ruled}
+use Rattle.livevar_analysis.specs.EngineLaws.{execute_more, execute_none}
+use borrow.Author.Rules.{rules}
+use native.Mathlib.Omega.{arith}
+use Rattle.livevar_analysis.proofs.execute.execute_block.Goals as goal
+use Rattle.livevar_analysis.proofs.execute.execute_block.Invariants.{BlockLeft}
+
+pub loop-k-preserved : goal.loop-k-preserved
+loop-k-preserved c =
+    record { within = search rules; same = λ code ruled h. c.loop-k.invariant.same code ruled h ∙ execute_more code _ _ _ c.loop-k-test.true (omega arith) ∙ ap (execute_all (take (c.loop-k.k - 1 - c.args.lower) (drop c.args.lower code))) (sym (c.apply-set.ensures ∙ ruled.each _ _ (omega arith))) }
+
+pub returns : goal.returns
+returns c code ruled h = sym (c.loop-k.invariant.same code ruled h ∙ execute_none code _ _ _ c.loop-k-test.false)

@@ -1,0 +1,13 @@
+use mathlib.Core.Path.{◌≡◌, ◌∙◌}
+use Prim.Native.Nat.{◌≤◌, ◌<◌, ◌-◌}
+use lib.ListN.{take, length}
+use Rattle.dataflow_domains.specs.Mask.{set_of}
+use Rattle.dataflow_domains.specs.Sets.{mask}
+use Rattle.livevar_analysis.specs.DecodeLaws.{set_of_more}
+use Rattle.livevar_analysis.proofs.rules.set_of.Given as goal
+
+abbrev pub invariant-loop-i : goal.invariant-loop-i
+invariant-loop-i l = (l.i ≤ l.n) × (mask l.set ≡ set_of (take l.i l.list))
+
+abbrev pub decreases-loop-i : goal.decreases-loop-i
+decreases-loop-i l = l.n - l.i

@@ -1,0 +1,20 @@
+use mathlib.Core.Path.{◌≡◌, refl, sym, ap, ◌∙◌}
+use mathlib.Core.List.{List}
+use Prim.Native.Nat.{ℕ, ◌+◌, ◌-◌, ◌≤◌, ◌<◌}
+use lib.ListN.{length, get_or, take, drop}
+use Rattle.stackless_bytecode.specs.declared.Bytecode.{Bytecode}
+use Rattle.stackless_control_flow_graph.specs.Blocks.{keyed}
+use Rattle.stackless_control_flow_graph.specs.Graph.{Edges}
+use Rattle.livevar_analysis.specs.Engine.{leads}
+use Rattle.livevar_analysis.specs.EngineLaws.{can_hand_as, handed_as, leads_all}
+use native.Mathlib.Omega.{arith}
+use borrow.Author.Rules.{rules}
+use Rattle.livevar_engine.proofs.engine.hand_key.Goals as goal
+
+pub hand_all-requires : goal.hand_all-requires
+hand_all-requires c =
+    let p = c.requires in
+    (can_hand_as _ _ _ _ _ (sym (leads_all p.code _ _ p.nodes c.if-k-eq1.true)) refl p.hands, p.few)
+
+pub returns-then-k-eq1 : goal.returns-then-k-eq1
+returns-then-k-eq1 c code edges nodes = handed_as _ _ _ _ _ _ _ _ _ (leads_all code _ _ nodes c.if-k-eq1.true) refl c.hand_all.ensures

@@ -1,0 +1,12 @@
+use mathlib.Core.Path.{◌≡◌, sym, ◌∙◌}
+use Prim.Native.Nat.{◌+◌, ◌-◌}
+use lib.ListN.{length}
+use Rattle.dataflow_analysis.specs.QueueLaws.{Took, took_key, took_none}
+use Rattle.livevar_analysis.specs.RunLaws.{Held, held_begin, held_out, held_hands, held_head, held_more, held_done}
+use Rattle.livevar_engine.proofs.engine.run.Given as goal
+
+abbrev pub invariant-loop-k : goal.invariant-loop-k
+invariant-loop-k l = Held l.rules l.lower_of_key l.upper_of_key l.first_edge l.edges l.initial.sets l.initial.met l.initial.q l.initial.c l.sets l.met l.q l.c
+
+abbrev pub decreases-loop-k : goal.decreases-loop-k
+decreases-loop-k l = length l.initial.q - l.c.head

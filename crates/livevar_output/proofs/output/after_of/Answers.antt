@@ -1,0 +1,21 @@
+use mathlib.Core.Path.{sym, ap, ◌∙◌}
+use mathlib.Core.Bool.{Bool, cond}
+use lib.ListN.{get_or}
+use Rattle.dataflow_domains.specs.Sets.{mask, stored_set}
+use Rattle.livevar_analysis.specs.Output.{after_by}
+use native.Mathlib.Omega.{arith}
+use borrow.Author.Rules.{rules}
+use Rattle.livevar_output.proofs.output.after_of.Goals as goal
+
+pub returns-then-ends : goal.returns-then-ends
+unfolding after_by
+returns-then-ends c =
+    let s = c.args in
+    c.load.ensures ∙ ap (stored_set s.sets.now) c.u16_to_usize.ensures.0
+    ∙ sym (ap (λ (b : Bool). cond b (stored_set s.sets.now (get_or s.keys.now s.k 0)) (mask s.m)) (sym c.ends.ensures ∙ c.if-ends.true))
+
+pub returns : goal.returns
+unfolding after_by
+returns c =
+    let s = c.args in
+    sym (ap (λ (b : Bool). cond b (stored_set s.sets.now (get_or s.keys.now s.k 0)) (mask s.m)) (sym c.ends.ensures ∙ c.if-ends.false))

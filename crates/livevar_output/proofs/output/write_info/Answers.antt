@@ -1,0 +1,34 @@
+use mathlib.Core.Path.{◌≡◌, refl, sym, ap, ◌∙◌}
+use mathlib.Core.List.{List, ◌++◌}
+use Prim.Native.Nat.{ℕ, ◌*◌, ◌≤◌}
+use lib.ListN.{length, drop}
+use Rattle.base.specs.Sizes.{pair_bytes}
+use Rattle.dataflow_domains.specs.Sets.{mask}
+use Rattle.stackless_bytecode.specs.declared.Bytecode.{Bytecode}
+use Rattle.livevar_analysis.specs.Analysis.{live_bytes}
+use Rattle.livevar_analysis.specs.Rules.{Ruled}
+use Rattle.livevar_analysis.specs.Output.{infos_by, Blocked}
+use Rattle.livevar_analysis.specs.OutputLaws.{InfoWritten, written_none, written_step, written_all}
+use borrow.Author.Rules.{rules}
+use native.Mathlib.Omega.{arith}
+use Rattle.livevar_output.proofs.output.write_info.Goals as goal
+use Rattle.livevar_output.proofs.output.write_info.Invariants.{WrittenFrom}
+
+pub loop-k-init : goal.loop-k-init
+loop-k-init c = let s = c.args in record { within = omega arith; long = refl; same = λ code ms e ruled known. written_none code ms s.out.now s.n _ e }
+
+pub loop-k-preserved : goal.loop-k-preserved
+loop-k-preserved c =
+    let l = c.loop-k in
+    let s = c.args in
+    record {
+      within = omega arith;
+      long = search rules;
+      same = λ code ms e ruled known. written_step code ms s.out.now s.rules.now s.keys.now s.sets.now s.n (mask c.after_of-after.result) (mask c.apply-m.result) c.put_info.new.out e ruled known (omega arith) (omega arith) (omega arith) c.after_of-after.ensures c.apply-m.ensures c.put_info.ensures (l.invariant.same code ms e ruled known);
+    }
+
+pub returns : goal.returns
+returns c code ms e ruled known =
+    let l = c.loop-k in
+    let s = c.args in
+    written_all code ms s.out.now (omega arith) (l.invariant.same code ms e ruled known) ∙ ap (λ (x : ℕ). live_bytes (infos_by code ms) ++ drop (pair_bytes * x) s.out.now) (sym e)

@@ -1,0 +1,7 @@
+use mathlib.Core.Path.{refl}
+use Rattle.sheet.specs.Layout.{padded}
+use Rattle.livevar_transform.proofs.instructions.mark.Goals as goal
+
+pub returns : goal.returns
+unfolding padded
+returns c = refl

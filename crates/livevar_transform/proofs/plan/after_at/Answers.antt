@@ -1,0 +1,9 @@
+use mathlib.Core.Path.{◌∙◌}
+use Prim.Native.Nat.{◌*◌}
+use Rattle.base.specs.Sizes.{pair_bytes}
+use Rattle.livevar_transform.specs.PlanLaws.{after_part}
+use borrow.Author.Rules.{rules}
+use Rattle.livevar_transform.proofs.plan.after_at.Goals as goal
+
+pub returns : goal.returns
+returns c = c.set_in.ensures ∙ after_part c.args.info.now (pair_bytes * c.args.k)

@@ -1,0 +1,22 @@
+use mathlib.Core.Path.{sym, ◌∙◌}
+use mathlib.Core.Bool.{true, false}
+use Rattle.livevar_transform.specs.PlanLaws.{ranged, room_at, dead_at, fate_behind, fate_dead, fate_kept}
+use Rattle.livevar_transform.proofs.plan.fate_of.Goals as goal
+
+pub returns-then-behind : goal.returns-then-behind
+returns-then-behind c = fate_behind _ _ _ (sym c.requires.3 ∙ c.if-behind.true)
+
+pub is_dead-requires : goal.is_dead-requires
+is_dead-requires c = (room_at c.requires.0 _ c.requires.1, ranged c.requires.0 _ _ c.requires.1 c.requires.2)
+
+pub returns-then-is_dead : goal.returns-then-is_dead
+returns-then-is_dead c =
+    fate_dead _ _ _ (dead_at c.requires.0 _ _ c.requires.1 c.requires.2 ∙ sym c.is_dead.ensures ∙ c.if-is_dead.true)
+
+pub returns-then-is_merged : goal.returns-then-is_merged
+returns-then-is_merged c =
+    fate_kept _ _ _ true (sym c.requires.3 ∙ c.if-behind.false) (dead_at c.requires.0 _ _ c.requires.1 c.requires.2 ∙ sym c.is_dead.ensures ∙ c.if-is_dead.false) (sym c.is_merged.ensures ∙ c.if-is_merged.true)
+
+pub returns : goal.returns
+returns c =
+    fate_kept _ _ _ false (sym c.requires.3 ∙ c.if-behind.false) (dead_at c.requires.0 _ _ c.requires.1 c.requires.2 ∙ sym c.is_dead.ensures ∙ c.if-is_dead.false) (sym c.is_merged.ensures ∙ c.if-is_merged.false)

@@ -1,0 +1,7 @@
+use Rattle.livevar_transform.specs.NumberLaws.{wide_below, past_below, past_two}
+use native.Mathlib.Omega.{arith}
+use borrow.Author.Rules.{rules}
+use Rattle.livevar_transform.proofs.plan.past_both.Goals as goal
+
+pub past-requires-2 : goal.past-requires-2
+past-requires-2 c = past_below _ _ _ c.requires.0 c.past.ensures

@@ -1,0 +1,6 @@
+use borrow.Author.Rules.{rules}
+use Rattle.listing.specs.OutputLaws.{wrote_then}
+use Rattle.page.proofs.sections.put_code_section.Goals as goal
+
+pub returns : goal.returns
+returns c = wrote_then c.put_bytes-e.ensures c.put_code.ensures

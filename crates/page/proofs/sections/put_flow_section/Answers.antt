@@ -1,0 +1,26 @@
+use borrow.Author.Rules.{rules}
+use mathlib.Core.Path.{◌≡◌}
+use mathlib.Core.List.{List}
+use Prim.Native.Nat.{ℕ, ◌*◌}
+use lib.ListN.{length, replicate, length-replicate}
+use Rattle.base.specs.Sizes.{row_numbers, max_instructions}
+use Rattle.listing.specs.OutputLaws.{wrote_as, wrote_then}
+use Rattle.pages.specs.SectionLaws.{flow_written}
+use Rattle.page.proofs.sections.put_flow_section.Goals as goal
+
+abbrev blank : List ℕ
+blank = replicate (row_numbers * max_instructions) 0
+
+blank_long : length blank ≡ row_numbers * max_instructions
+blank_long = length-replicate {A = ℕ} (row_numbers * max_instructions) 0
+
+pub put_blocks-b-requires : goal.put_blocks-b-requires
+put_blocks-b-requires c =
+    let t = c.table_of-m.ensures in
+    (flow_written c.requires blank blank_long _ _ t.result t.written).room
+
+pub returns : goal.returns
+returns c =
+    let t = c.table_of-m.ensures in
+    let text = (flow_written c.requires blank blank_long _ _ t.result t.written).text in
+    wrote_then (wrote_then c.put_bytes-e.ensures (wrote_as text c.put_blocks-b.ensures)) c.put_unnamed.ensures

@@ -1,0 +1,17 @@
+use mathlib.Core.Path.{◌≡◌, ◌∙◌}
+use Prim.Native.Nat.{◌-◌, ◌≤◌}
+use lib.ListN.{length}
+use Rattle.sheet.specs.Layout.{code_of}
+use Rattle.livevar_analysis.specs.InputLaws.{count_of_lem}
+use Rattle.stackless_control_flow_graph.specs.CheckedSheetLaws.{accepted_has}
+use Rattle.listing.specs.Output.{Wrote}
+use Rattle.listing.specs.OutputLaws.{wrote_as, wrote_none, wrote_then, wrote_length}
+use Rattle.pages.specs.Parts.{code_lines}
+use Rattle.pages.specs.CodeLaws.{lines_none, lines_more, lines_all, heading_there}
+use Rattle.pages.proofs.code.put_code.Given as goal
+
+abbrev pub invariant-loop-k : goal.invariant-loop-k
+invariant-loop-k l = (l.k ≤ l.n) × (l.n ≡ length (code_of l.s)) × Wrote l.initial.out l.initial.e (code_lines l.s l.k) l.out l.e
+
+abbrev pub decreases-loop-k : goal.decreases-loop-k
+decreases-loop-k l = l.n - l.k

@@ -1,0 +1,15 @@
+use mathlib.Core.Path.{◌≡◌, sym}
+use Prim.Native.Nat.{◌-◌, ◌≤◌}
+use Rattle.base.specs.Sizes.{max_locals}
+use Rattle.base.specs.Bytes.{number}
+use Rattle.listing.specs.Output.{Wrote}
+use Rattle.listing.specs.OutputLaws.{wrote_as, wrote_none, wrote_then, wrote_length}
+use Rattle.pages.specs.Parts.{locals_below}
+use Rattle.pages.specs.CodeLaws.{below_none, below_more, below_all}
+use Rattle.pages.proofs.code.put_locals.Given as goal
+
+abbrev pub invariant-loop-i : goal.invariant-loop-i
+invariant-loop-i l = (l.i ≤ max_locals) × Wrote l.initial.out l.at (locals_below l.i (number l.p)) l.out l.e
+
+abbrev pub decreases-loop-i : goal.decreases-loop-i
+decreases-loop-i l = max_locals - l.i

@@ -1,0 +1,13 @@
+use mathlib.Core.Path.{sym, ap, ◌∙◌}
+use Prim.Native.Nat.{ℕ, ◌+◌, ◌-◌, ◌≤◌}
+use lib.ListN.{length, drop}
+use Rattle.listing.specs.OutputLaws.{Goes, goes_start, goes_as, goes_on, goes_end, goes_length}
+use Rattle.pages.specs.Words.{word}
+use Rattle.pages.specs.WordLaws.{word_ends, word_goes, word_end}
+use Rattle.pages.proofs.words.put_word.Given as goal
+
+abbrev pub invariant-loop-k : goal.invariant-loop-k
+invariant-loop-k l = (l.k ≤ length l.text) × Goes l.initial.out l.at (word l.i l.text) l.out l.e (word l.left (drop l.k l.text))
+
+abbrev pub decreases-loop-k : goal.decreases-loop-k
+decreases-loop-k l = length l.text - l.k

@@ -1,0 +1,15 @@
+use mathlib.Core.Path.{refl}
+use Prim.Native.Nat.{ℕ, ◌-◌, ◌*◌}
+use lib.ListN.{length-replicate}
+use Rattle.base.specs.Sizes.{set_words, slots, max_instructions, max_blocks}
+use Rattle.sheet_writer.specs.Written.{body_bytes}
+use Rattle.livevar_transform.specs.PlanLaws.{few}
+use borrow.Author.Rules.{rules}
+use native.Mathlib.Omega.{arith}
+use Rattle.rewrite.proofs.rewrite.rewrite_sheet.Goals as goal
+
+pub plan_and_write-requires : goal.plan_and_write-requires
+plan_and_write-requires c =
+    let p = c.requires in
+    let most = few p.0.ready.known in
+    (p.0, record { few = most; offsets = omega (arith, most, length-replicate {A = ℕ} max_instructions 0); edges = omega (arith, most, length-replicate {A = ℕ} (set_words * slots) 0) }, record { size = body_bytes * (max_blocks - 1); is = refl; room = omega arith }, search rules)

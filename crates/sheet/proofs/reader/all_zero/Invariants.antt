@@ -1,0 +1,14 @@
+use mathlib.Core.Bool.{◌&&◌}
+use mathlib.Core.Path.{◌≡◌, refl, sym, ◌∙◌}
+use Prim.Native.Nat.{◌-◌}
+use lib.ListN.{length, drop}
+use lib.Dec.{eqb}
+use Rattle.base.specs.ByteLaws.{zeros_or, zeros_or_end}
+use Rattle.base.specs.Lists.{zeros}
+use Rattle.sheet.proofs.reader.all_zero.Given as goal
+
+abbrev pub invariant-loop-i : goal.invariant-loop-i
+invariant-loop-i l = zeros l.s ≡ eqb l.m 0 && zeros (drop l.i l.s)
+
+abbrev pub decreases-loop-i : goal.decreases-loop-i
+decreases-loop-i l = length l.s - l.i

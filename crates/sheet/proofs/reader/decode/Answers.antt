@@ -1,0 +1,7 @@
+use borrow.Author.Rules.{rules}
+use Rattle.sheet.specs.Layout.{decode}
+use Rattle.sheet.proofs.reader.decode.Goals as goal
+
+pub returns : goal.returns
+unfolding decode
+returns c = cc

@@ -1,0 +1,15 @@
+use mathlib.Core.Path.{◌≡◌, refl, sym, ap, ◌∙◌}
+use Prim.Native.Nat.{ℕ, ◌+◌, ◌-◌, ◌≤◌}
+use borrow.Author.Tests.{not-true, not-false}
+use Rattle.base.specs.SearchLaws.{bad_more, bad_stop, bad_end}
+use Rattle.base.specs.Lists.{first_bad}
+use Rattle.base.specs.Sizes.{block_records}
+use Rattle.base.specs.Refusals.{found_of}
+use Rattle.sheet_form.specs.BlockSearch.{in_block, place_in, row_in, no_kind}
+use Rattle.sheet_form.proofs.records.first_bad_in.Given as goal
+
+abbrev pub invariant-loop-k : goal.invariant-loop-k
+invariant-loop-k l = (l.from ≤ l.k) × (l.end ≡ l.from + block_records) × (first_bad block_records l.from (in_block l.p l.from l.n) ≡ first_bad (l.end - l.k) l.k (in_block l.p l.from l.n))
+
+abbrev pub decreases-loop-k : goal.decreases-loop-k
+decreases-loop-k l = l.end - l.k

@@ -1,0 +1,11 @@
+use native.Mathlib.Omega.{arith}
+use borrow.Author.Rules.{rules}
+use Rattle.base.specs.ByteLaws.{number_more, number_end, bytes_eight}
+use Rattle.sheet_form.proofs.records.number_of.Goals as goal
+
+pub returns : goal.returns
+returns c =
+    let p = c.args.list in (
+      omega (arith, number_more p 0 (omega arith), number_more p 1 (omega arith), number_more p 2 (omega arith), number_more p 3 (omega arith), number_more p 4 (omega arith), number_more p 5 (omega arith), number_more p 6 (omega arith), number_more p 7 (omega arith), number_end p 8 (omega arith)),
+      bytes_eight p (omega arith) (omega arith) (omega arith) (omega arith) (omega arith) (omega arith) (omega arith) (omega arith) (omega arith),
+    )

@@ -1,0 +1,9 @@
+use mathlib.Core.Path.{◌∙◌}
+use borrow.Author.Rules.{rules}
+use Rattle.sheet.specs.Checks.{record_ok}
+use Rattle.sheet.specs.Layout.{decode}
+use Rattle.sheet_form.proofs.records.place_ok.Goals as goal
+
+pub returns-then-used : goal.returns-then-used
+unfolding record_ok decode
+returns-then-used c = c.fits.ensures ∙ rw (c.decode.ensures, c.if-used.true, c.requires.1)

@@ -1,0 +1,12 @@
+use mathlib.Core.Path.{ap}
+use Prim.Native.Nat.{ℕ, ◌/◌, ◌%◌, ◌^◌}
+use lib.Bits.{and_mask}
+use lib.Dec.{eqb}
+use lib.ListN.{get_or}
+use Rattle.dataflow_domains.specs.Mask.{bit, holds}
+use borrow.Author.Rules.{rules}
+use Rattle.sheet_labels.proofs.labels.has_bit.Goals as goal
+
+pub returns : goal.returns
+unfolding holds bit
+returns c = let a = c.args in ap (λ (x : ℕ). eqb x 1) (and_mask (get_or a.seen.now (a.l / 64) 0 / 2 ^ (a.l % 64)) 1)

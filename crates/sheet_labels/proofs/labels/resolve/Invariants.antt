@@ -1,0 +1,23 @@
+use mathlib.Core.Path.{sym, ap, ◌∙◌}
+use mathlib.Core.Logic.{⊎_elim}
+use Prim.Native.Nat.{◌-◌, ◌*◌}
+use lib.ListN.{length}
+use Rattle.base.specs.Lists.{has}
+use Rattle.sheet.specs.Layout.{code_of}
+use Rattle.sheet.specs.Shaped.{record_inside, code_size}
+use Rattle.sheet.specs.LabelLaws.{slot_is, code_below}
+use Rattle.sheet_labels.specs.Labelled.{Search}
+use Rattle.sheet_labels.specs.NameLaws.{search_more, search_end, Slots, slots_none, slots_skip, slots_found, slots_missing, listed_length, named_missing, named_all}
+use Rattle.sheet_labels.proofs.labels.resolve.Given as goal
+
+abbrev pub invariant-loop-j : goal.invariant-loop-j
+invariant-loop-j l = Search l.labels l.l l.j
+
+abbrev pub decreases-loop-j : goal.decreases-loop-j
+decreases-loop-j l = length l.labels - l.j
+
+abbrev pub invariant-outer : goal.invariant-outer
+invariant-outer l = Slots (code_of l.s) l.n l.initial.targets l.targets l.e
+
+abbrev pub decreases-outer : goal.decreases-outer
+decreases-outer l = 2 * l.n - l.e

@@ -1,0 +1,14 @@
+use mathlib.Core.Path.{◌≡◌, sym, ◌∙◌}
+use Prim.Native.Nat.{◌+◌, ◌-◌}
+use lib.ListN.{length}
+use Rattle.sheet_labels.specs.Labelled.{Search}
+use Rattle.sheet_labels.specs.NameLaws.{search_none, search_part}
+use borrow.Author.Rules.{rules}
+use native.Mathlib.Omega.{arith}
+use Rattle.sheet_labels.proofs.labels.skip.Goals as goal
+
+pub loop-j-preserved : goal.loop-j-preserved
+loop-j-preserved c =
+    let l = c.loop-j in
+    let n : l.j + 32 - l.j ≡ 32 = omega arith in
+    search_part 32 l.invariant (omega arith) (rw n at (sym c.list_has.ensures ∙ c.if-list_has.false))

@@ -1,0 +1,13 @@
+use mathlib.Core.Path.{◌≡◌, refl, sym, ◌∙◌}
+use Prim.Native.Nat.{◌-◌}
+use lib.Dec.{ltb}
+use lib.ListN.{take, drop}
+use Rattle.base.specs.Lists.{all}
+use Rattle.sheet_locals.specs.LocalLaws.{below_more, below_stop, below_end}
+use Rattle.sheet_locals.proofs.locals.all_below.Given as goal
+
+abbrev pub invariant-loop-i : goal.invariant-loop-i
+invariant-loop-i l = all (λ x. ltb x l.n) (take l.count l.xs) ≡ all (λ x. ltb x l.n) (drop l.i (take l.count l.xs))
+
+abbrev pub decreases-loop-i : goal.decreases-loop-i
+decreases-loop-i l = l.to - l.i

@@ -1,0 +1,17 @@
+use mathlib.Core.Path.{◌≡◌, sym, ap, ◌∙◌}
+use Prim.Native.Nat.{◌+◌, ◌-◌, ◌*◌, ◌≤◌}
+use lib.ListN.{length}
+use Rattle.base.specs.Sizes.{block_bytes, block_records}
+use Rattle.base.specs.Lists.{first_bad}
+use Rattle.base.specs.SearchLaws.{bad_start, bad_end}
+use Rattle.base.specs.Refusals.{found_of}
+use Rattle.stackless_bytecode.specs.Kinds.{at, stop_ok}
+use Rattle.sheet.specs.Layout.{record_blocks, code_of}
+use Rattle.sheet.specs.ByBlocks.{few_records, pass_block, stop_block}
+use Rattle.sheet_stops.proofs.first_bad_stop.Given as goal
+
+abbrev pub invariant-loop-from : goal.invariant-loop-from
+invariant-loop-from l = (l.from ≡ block_records * l.b) × (first_bad l.n 0 (λ j. stop_ok (at (code_of l.s) j)) ≡ first_bad (l.n - l.from) l.from (λ j. stop_ok (at (code_of l.s) j)))
+
+abbrev pub decreases-loop-from : goal.decreases-loop-from
+decreases-loop-from l = l.n - l.from

@@ -1,0 +1,15 @@
+use mathlib.Core.Path.{◌≡◌, refl, subst}
+use Rattle.sheet_writer.specs.Written.{Blocks}
+use Rattle.sheet_writer.specs.SheetLaws.{later_by, blocks_none, blocks_more}
+use Prim.Native.Nat.{ℕ, ◌-◌, ◌≤◌}
+use lib.ListN.{length}
+use borrow.Author.Rules.{rules}
+use native.Mathlib.Omega.{arith}
+use Rattle.sheet_writer.proofs.whole.put_all_later.Goals as goal
+
+pub loop-b-init : goal.loop-b-init
+loop-b-init c = (omega arith, refl, blocks_none _ _)
+
+pub loop-b-preserved : goal.loop-b-preserved
+loop-b-preserved c =
+    (omega arith, search rules, blocks_more _ _ _ _ _ (omega arith) (later_by c.args.flat.now c.loop-b.b _ c.put_later.ensures) c.loop-b.invariant.2)

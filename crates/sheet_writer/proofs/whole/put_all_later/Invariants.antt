@@ -1,0 +1,12 @@
+use mathlib.Core.Path.{◌≡◌, refl, subst}
+use Rattle.sheet_writer.specs.Written.{Blocks}
+use Rattle.sheet_writer.specs.SheetLaws.{later_by, blocks_none, blocks_more}
+use Prim.Native.Nat.{ℕ, ◌-◌, ◌≤◌}
+use lib.ListN.{length}
+use Rattle.sheet_writer.proofs.whole.put_all_later.Given as goal
+
+abbrev pub invariant-loop-b : goal.invariant-loop-b
+invariant-loop-b l = (l.b ≤ l.m) × (length l.out ≡ length l.initial.out) × Blocks l.flat l.initial.out l.b l.out
+
+abbrev pub decreases-loop-b : goal.decreases-loop-b
+decreases-loop-b l = l.m - l.b

@@ -1,0 +1,10 @@
+use lib.ListN.{length-set}
+use Rattle.base.specs.WriteLaws.{fill}
+use Rattle.sheet_writer.specs.Written.{head_of}
+use native.Mathlib.Omega.{arith}
+use borrow.Author.Rules.{rules}
+use Rattle.sheet_writer.proofs.writer.put_head.Goals as goal
+
+pub returns : goal.returns
+returns c =
+    fill c.args.out.now (head_of c.args.r) c.requires

@@ -1,0 +1,14 @@
+use mathlib.Core.Path.{sym, ◌∙◌}
+use Prim.Native.Nat.{◌-◌}
+use lib.Seq.{take_all}
+use Rattle.base.specs.Sizes.{list_places}
+use Rattle.base.specs.CopyLaws.{Copied, copied_none, copied_more, copied_all}
+use Rattle.sheet_writer.specs.EncodeLaws.{padded_full}
+use native.Mathlib.Nat.{zero-add}
+use Rattle.sheet_writer.proofs.writer.put_places.Given as goal
+
+abbrev pub invariant-loop-i : goal.invariant-loop-i
+invariant-loop-i l = Copied l.xs 0 list_places l.out l.i
+
+abbrev pub decreases-loop-i : goal.decreases-loop-i
+decreases-loop-i l = list_places - l.i

@@ -1,0 +1,8 @@
+use Rattle.base.specs.Bytes.{bytes_of}
+use Rattle.base.specs.WriteLaws.{fill}
+use borrow.Author.Rules.{rules}
+use Rattle.sheet_writer.proofs.writer.put_u16.Goals as goal
+
+pub returns : goal.returns
+unfolding bytes_of
+returns c = fill c.args.out.now (bytes_of 2 c.args.x) c.requires

@@ -1,0 +1,13 @@
+use Rattle.stackless_control_flow_graph.specs.OffsetLaws.{marked_none, marked_more, listing_most}
+use Rattle.stackless_control_flow_graph.specs.Arrays.{marked_in}
+use lib.Seq.{length-take-le}
+use lib.ListN.{length, take}
+use Prim.Native.Nat.{◌≤◌, ◌-◌}
+use mathlib.Core.Path.{◌≡◌, refl, sym, ap, ◌∙◌}
+use Rattle.stackless_control_flow_graph.proofs.blocks.list_lowers.Given as goal
+
+abbrev pub invariant-loop-k : goal.invariant-loop-k
+invariant-loop-k l = (l.k ≤ l.n) × (length l.lowers ≡ length l.initial.lowers) × (l.c ≤ l.k) × (take l.c l.lowers ≡ marked_in l.marks l.k)
+
+abbrev pub decreases-loop-k : goal.decreases-loop-k
+decreases-loop-k l = l.n - l.k

@@ -1,0 +1,27 @@
+use mathlib.Core.Path.{◌≡◌, refl}
+use mathlib.Core.List.{List}
+use Prim.Native.Nat.{ℕ, ◌-◌, ◌≤◌, ◌<◌}
+use lib.ListN.{get_or, length, length-set}
+use Rattle.stackless_bytecode.specs.declared.Bytecode.{Bytecode}
+use Rattle.stackless_bytecode.specs.Sound.{Sound}
+use Rattle.stackless_control_flow_graph.specs.Blocks.{keyed}
+use Rattle.stackless_control_flow_graph.specs.Arrays.{key_in}
+use Rattle.stackless_control_flow_graph.specs.SpreadLaws.{Spreading, spread_begin, spread_more}
+use borrow.Author.Rules.{rules}
+use native.Mathlib.Omega.{arith}
+use Rattle.stackless_control_flow_graph.proofs.keys.spread_keys.Goals as goal
+use Rattle.stackless_control_flow_graph.proofs.keys.spread_keys.Invariants.{SpreadTo}
+
+pub loop-k-preserved : goal.loop-k-preserved
+loop-k-preserved c =
+    let i = c.loop-k.invariant in
+    record {
+      within = omega arith;
+      kept = rw length-set i.kept;
+      spread = λ code sound size numbered. spread_more code sound _ numbered _ _ _ _ (omega (arith, size)) c.key_or-last.ensures (i.spread code sound size numbered) (omega (arith, i.kept));
+    }
+
+pub returns : goal.returns
+returns c =
+    let i = c.loop-k.invariant in
+    λ code sound size numbered. record { long = omega (arith, i.kept, size); each = λ k h. (i.spread code sound size numbered).each k (omega (arith, size)) }

@@ -1,0 +1,14 @@
+use mathlib.Core.Path.{◌≡◌, refl, ◌∙◌}
+use Prim.Native.Nat.{◌≤◌, ◌-◌}
+use lib.ListN.{length, length-set}
+use Rattle.sheet.specs.Layout.{code_of}
+use Rattle.stackless_control_flow_graph.specs.CheckedSheetLaws.{checked_once, checked_size, marks_begin}
+use Rattle.stackless_control_flow_graph.specs.StartLaws.{marks_end}
+use Rattle.stackless_control_flow_graph.specs.Arrays.{SuccessorsTo, Marking}
+use Rattle.stackless_control_flow_graph.proofs.starts.visit_all.Given as goal
+
+abbrev pub invariant-loop-k : goal.invariant-loop-k
+invariant-loop-k l = (l.k ≤ l.n) × (length l.goes ≡ length l.initial.goes) × (length l.marks ≡ length l.initial.marks) × SuccessorsTo (code_of l.sheet) l.k l.goes × Marking (code_of l.sheet) l.k l.marks
+
+abbrev pub decreases-loop-k : goal.decreases-loop-k
+decreases-loop-k l = l.n - l.k

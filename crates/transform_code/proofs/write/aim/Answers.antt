@@ -1,0 +1,9 @@
+use mathlib.Core.Path.{◌∙◌}
+use Rattle.livevar_transform.specs.NumberLaws.{wide_below, label_one, label_two}
+use Rattle.livevar_transform.specs.NewCodeLaws.{aimed_by}
+use native.Mathlib.Omega.{arith}
+use borrow.Author.Rules.{rules}
+use Rattle.transform_code.proofs.write.aim.Goals as goal
+
+pub returns : goal.returns
+returns c = c.with_labels.ensures ∙ aimed_by _ _ _ _ _ _ _ _ _ c.load-then.ensures c.load-other.ensures c.goes_to-one.ensures c.past-second.ensures c.goes_to-two.ensures

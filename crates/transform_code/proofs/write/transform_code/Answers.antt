@@ -1,0 +1,17 @@
+use mathlib.Core.Path.{ap}
+use Prim.Native.Nat.{ℕ, ◌*◌}
+use lib.ListN.{length}
+use Rattle.base.specs.Sizes.{record_bytes}
+use Rattle.base.specs.Lists.{joins}
+use Rattle.sheet.specs.Layout.{code_of}
+use Rattle.sheet_writer.specs.RecordsLaws.{tail_room}
+use Rattle.livevar_transform.specs.Plan.{added_by}
+use Rattle.livevar_transform.specs.NumberLaws.{code_parts}
+use Rattle.livevar_transform.specs.NewCodeLaws.{all_written}
+use borrow.Author.Rules.{rules}
+use native.Mathlib.Omega.{arith}
+use Rattle.transform_code.proofs.write.transform_code.Goals as goal
+
+pub returns : goal.returns
+returns c =
+    all_written _ _ _ _ _ _ _ _ _ c.put_all_kept-m.ensures.1 (ap (λ (x : ℕ). record_bytes * x) c.put_all_kept-m.ensures.0) c.put_all_blocks.ensures
