@@ -1,7 +1,7 @@
 /*
- * Sheets, live sets and dying nodes: the calls of the proved archive, libc_api.a (`rt staticlib c_api` writes target/staticlib/libc_api.a).
+ * Sheets, live sets and dying nodes: the calls of the proved archive, libc_api.a (`tools/archive` proves them and writes rust/target/archive/libc_api.a).
  *
- *     cc -Iinclude marks.c target/staticlib/libc_api.a -o marks
+ *     cc -Iinclude marks.c rust/target/archive/libc_api.a -o marks
  *
  * Answers. Every call takes any bytes and numbers at all, and returns number * 2^32 + value. Number 0 means accepted, and value is the answer;
  * any other number is a refusal of the paper's table, and value is its place. SORZIBELU_NUMBER and SORZIBELU_VALUE take the two apart.
@@ -13,8 +13,8 @@
  * Stack. The calls allocate nothing and keep nothing between calls, so that threads may call them at the same time; their arrays are on the stack.
  * A thread of SORZIBELU_STACK_BYTES is enough for every call but sorzibelu_page, which needs SORZIBELU_PAGE_STACK_BYTES:
  *
- *     check 16.1 KiB   flow 17.3 KiB   live 187.5 KiB   live_class 187.6 KiB   rewrite 203.5 KiB   renumber 45.3 KiB   label 16.2 KiB
- *     livelist 203.6 KiB   page 239.6 KiB   in_use, conditional, dying below 1 KiB
+ *     check 16.1 KiB   flow 17.2 KiB   live 187.4 KiB   live_class 187.5 KiB   rewrite 203.4 KiB   renumber 45.4 KiB   label 16.2 KiB
+ *     livelist 203.4 KiB   page 239.5 KiB   in_use, conditional, dying below 1 KiB
  */
 #ifndef SORZIBELU_H
 #define SORZIBELU_H

@@ -1,9 +1,9 @@
-//! Links the proved archive: the one that SORZIBELU_ARCHIVE names, else target/staticlib/libc_api.a of this repository, proved and built anew
-//! where it is missing or older than the Rattle sources.
+//! Links the proved archive: the one that SORZIBELU_ARCHIVE names, else rust/target/archive/libc_api.a of this repository, proved and built anew
+//! by tools/archive where it is missing or older than the Rattle sources.
 use std::{
     env, fs,
     path::{Path, PathBuf},
-    process::{exit, Command},
+    process::{Command, exit},
     time::SystemTime,
 };
 
@@ -14,43 +14,54 @@ fn fail(why: &str) -> ! {
     exit(1)
 }
 
-/// When a file of a folder was last changed.
-fn newest(folder: &Path) -> SystemTime {
-    let entries = fs::read_dir(folder).into_iter().flatten().flatten();
-    let times = entries.filter_map(|e| if e.path().is_dir() { Some(newest(&e.path())) } else { e.metadata().and_then(|m| m.modified()).ok() });
-    times.max().unwrap_or(SystemTime::UNIX_EPOCH)
+fn entries(folder: &Path) -> Vec<PathBuf> {
+    fs::read_dir(folder).into_iter().flatten().flatten().map(|e| e.path()).collect()
+}
+
+fn changed(file: &Path) -> Option<SystemTime> {
+    fs::metadata(file).and_then(|m| m.modified()).ok()
+}
+
+/// When a file, or a file of a folder, was last changed.
+fn newest(path: &Path) -> SystemTime {
+    let times: Option<SystemTime> = if path.is_dir() { entries(path).iter().map(|p| newest(p)).max() } else { changed(path) };
+    times.unwrap_or(SystemTime::UNIX_EPOCH)
+}
+
+/// What the archive is made of: crates.txt, and all of each crate but its folder out/, where the prover keeps its work.
+fn sources(root: &Path) -> Vec<PathBuf> {
+    let parts = entries(&root.join("crates")).into_iter().flat_map(|c| entries(&c)).filter(|p| !p.ends_with("out"));
+    parts.chain([root.join("crates.txt")]).collect()
 }
 
 /// The archive of this repository, which `rt` proves and writes where it is not up to date.
 fn proved(root: &Path) -> PathBuf {
-    let archive = root.join("target/staticlib/libc_api.a");
-    let crates = root.join("crates");
-    println!("cargo:rerun-if-changed={}", crates.display());
-    println!("cargo:rerun-if-changed={}", root.join("crates.txt").display());
-    let changed = newest(&crates);
-    let fresh = |a: &Path| fs::metadata(a).and_then(|m| m.modified()).is_ok_and(|at| at >= changed);
-    if fresh(&archive) {
+    let archive = root.join("rust/target/archive/libc_api.a");
+    let sources = sources(root);
+    for path in &sources {
+        println!("cargo:rerun-if-changed={}", path.display());
+    }
+    let last = sources.iter().map(|p| newest(p)).max();
+    let fresh = || changed(&archive) >= last;
+    if fresh() {
         return archive;
     }
     // one prover at a time: ./run takes the same lock, and whoever comes second finds the work done
     let lock = fs::File::open(root.join("crates.txt"));
     let _ = lock.as_ref().map(fs::File::lock);
-    if fresh(&archive) {
+    if fresh() {
         return archive;
     }
-    match Command::new("rt").args(["staticlib", "c_api"]).current_dir(root).output() {
-        Err(_) => fail(&format!(
+    let done = Command::new(root.join("tools/archive")).output();
+    match done.as_ref().map(|d| d.status.code()) {
+        Err(_) | Ok(Some(127)) => fail(&format!(
             "The proved archive has to be built, and the Rattle toolchain (rt) is not on the PATH.\n\
-             Put rt on the PATH, or set {VARIABLE} to the path of a libc_api.a that was built elsewhere (rt staticlib c_api)."
+             Put rt on the PATH, or set {VARIABLE} to the path of a libc_api.a that was built elsewhere (tools/archive)."
         )),
-        Ok(done) if !done.status.success() || !archive.exists() => {
-            let said = [done.stdout, done.stderr].concat();
-            fail(&format!("`rt staticlib c_api` did not prove and write the archive:\n{}", String::from_utf8_lossy(&said)))
-        }
-        // sources with a new time and old content leave the archive as it was: its time says that it was looked at
+        Ok(Some(0)) if archive.exists() => archive,
         Ok(_) => {
-            let _ = fs::File::options().append(true).open(&archive).and_then(|f| f.set_modified(SystemTime::now()));
-            archive
+            let said = done.map(|d| [d.stdout, d.stderr].concat()).unwrap_or_default();
+            fail(&format!("`tools/archive` did not prove and write the archive:\n{}", String::from_utf8_lossy(&said)))
         }
     }
 }

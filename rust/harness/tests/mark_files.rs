@@ -1,9 +1,11 @@
 //! Many answers at once: files and folders, CSV, the same output on any number of threads, files that cannot be read.
 use sorzibelu::mark::{run, Options, Question, Status};
 use std::{
-    fs,
+    env, fs,
     io::{self, Write},
+    ops::Deref,
     path::{Path, PathBuf},
+    process,
 };
 
 const RIGHT: &str = "0 0000000000000003 0000000000000003\n1 0000000000000003 0000000000000003\n2 0000000000000002 0000000000000002\n3 0000000000000002 0000000000000000\ntaken 7\n";
@@ -12,12 +14,34 @@ fn m2() -> Question {
     Question::of_file(&fs::read(concat!(env!("CARGO_MANIFEST_DIR"), "/../../sheets/m2.sheet")).unwrap()).unwrap()
 }
 
-/// An empty folder of this test's own.
-fn folder(name: &str) -> PathBuf {
-    let dir = Path::new(env!("CARGO_TARGET_TMPDIR")).join(name);
+/// An empty folder of a test's own, which goes with it. It lies outside the checkout, where the gate takes no link and no second crates.txt.
+struct Folder(PathBuf);
+
+fn folder(name: &str) -> Folder {
+    let dir = env::temp_dir().join(format!("sorzibelu-mark-{name}-{}", process::id()));
     let _ = fs::remove_dir_all(&dir);
     fs::create_dir_all(&dir).unwrap();
-    dir
+    Folder(dir)
+}
+
+impl Deref for Folder {
+    type Target = Path;
+
+    fn deref(&self) -> &Path {
+        &self.0
+    }
+}
+
+impl AsRef<Path> for Folder {
+    fn as_ref(&self) -> &Path {
+        self
+    }
+}
+
+impl Drop for Folder {
+    fn drop(&mut self) {
+        let _ = fs::remove_dir_all(&self.0);
+    }
 }
 
 /// Status, what goes out, errors, and how often progress was told.
@@ -69,7 +93,7 @@ fn folders_on_any_number_of_threads() {
     #[cfg(unix)]
     std::os::unix::fs::symlink(&dir, dir.join("b/c/round")).unwrap();
     for csv in [false, true] {
-        let options = |threads: usize| Options { answers: vec![dir.clone()], csv, threads, kind: None };
+        let options = |threads: usize| Options { answers: vec![dir.to_path_buf()], csv, threads, kind: None };
         let first = marked(&options(1));
         assert!(first.0 == Status::Failed && first.3 == 201, "{} {}", first.3, first.2);
         assert!(first.2.ends_with("b/bytes, \"quoted\": not a text\n") && first.2.lines().count() == 1, "{}", first.2);
@@ -133,7 +157,7 @@ fn an_output_that_is_full() {
     (0..100).for_each(|i| fs::write(dir.join(i.to_string()), RIGHT).unwrap());
     for room in [0, 10, 1_000] {
         for csv in [false, true] {
-            let options = Options { answers: vec![dir.clone()], csv, threads: 4, kind: None };
+            let options = Options { answers: vec![dir.to_path_buf()], csv, threads: 4, kind: None };
             let status = run(&m2(), &options, &mut Full(room), &mut Full(0), &mut |_, _| {});
             assert_eq!(status.unwrap_err().kind(), io::ErrorKind::StorageFull);
         }

@@ -1,6 +1,6 @@
 //! The build script, compiled by itself and run in a repository with a prover that only pretends: when it proves, what it says, what it links.
 mod common;
-use common::folder;
+use common::{folder, root};
 use std::{
     env, fs,
     os::unix::fs::PermissionsExt,
@@ -32,19 +32,21 @@ fn run(dir: &Path, archive: &str) -> (bool, String, String) {
     (out.status.success(), String::from_utf8_lossy(&out.stdout).into(), String::from_utf8_lossy(&out.stderr).into())
 }
 
+/// A prover that notes where it was called and how, and does what the text says at the top of the repository.
 fn prover(dir: &Path, text: &str) {
     let rt = dir.join("bin/rt");
-    fs::write(&rt, format!("#!/bin/sh\n{text}\n")).unwrap();
+    fs::write(&rt, format!("#!/bin/sh\nhere=${{PWD##*/}}\ncd '{}'\necho \"$here: $*\" >>calls\n{text}\n", dir.display())).unwrap();
     fs::set_permissions(&rt, PermissionsExt::from_mode(0o755)).unwrap();
 }
 
 #[test]
 fn it_proves_what_is_missing_or_changed() {
     let dir = folder("build");
-    for sub in ["bin", "out", "crates/base/src", "rust/sorzibelu"] {
+    for sub in ["bin", "out", "tools", "crates/base/src", "crates/c_api_c/src", "rust/sorzibelu"] {
         fs::create_dir_all(dir.join(sub)).unwrap();
     }
-    fs::write(dir.join("crates.txt"), "base:\nc_api: base\n").unwrap();
+    fs::copy(root().join("tools/archive"), dir.join("tools/archive")).unwrap();
+    fs::write(dir.join("crates.txt"), "base:\nc_api_c staticlib: base\n").unwrap();
     fs::write(dir.join("crates/base/src/lib.txt"), "one").unwrap();
     script(&dir);
     let linked = || fs::read_to_string(dir.join("out/libc_api.a")).unwrap_or_default();
@@ -55,26 +57,29 @@ fn it_proves_what_is_missing_or_changed() {
         assert!(!fine && err.contains("the Rattle toolchain (rt) is not on the PATH") && err.contains("SORZIBELU_ARCHIVE"), "{err}");
     }
     // a prover that does not prove
-    prover(&dir, "echo 'rt: base NOT PROVED (exit 1, 7 s)'; exit 1");
+    prover(&dir, "echo 'logic=not-proved: base'; exit 1");
     let (fine, _, err) = run(&dir, "");
-    assert!(!fine && err.contains("did not prove and write the archive") && err.contains("base NOT PROVED"), "{err}");
+    assert!(!fine && err.contains("did not prove and write the archive") && err.contains("logic=not-proved: base"), "{err}");
+    assert!(!dir.join("rust/target/archive/libc_api.a").exists());
 
-    // one that does: called once, and again when a source changed
-    prover(&dir, "echo \"$*\" >>calls; mkdir -p target/staticlib; cat crates/base/src/lib.txt >target/staticlib/libc_api.a");
+    // one that does: called once, and again when a source changed, but not where only its own work did
+    fs::remove_file(dir.join("calls")).unwrap();
+    prover(&dir, "mkdir -p crates/c_api_c/out crates/base/out; cat crates/base/src/lib.txt >crates/c_api_c/out/libc_api_c.a; sleep 0.02; echo >crates/base/out/kept");
     let calls = || fs::read_to_string(dir.join("calls")).unwrap_or_default();
     let (fine, told, err) = run(&dir, "");
     assert!(fine && err.is_empty(), "{err}");
-    for what in ["rerun-if-env-changed=SORZIBELU_ARCHIVE", "/crates\n", "/crates.txt\n", "/libc_api.a\n"] {
+    for what in ["rerun-if-env-changed=SORZIBELU_ARCHIVE", "/crates/base/src\n", "/crates/c_api_c/src\n", "/crates.txt\n", "/rust/target/archive/libc_api.a\n"] {
         assert!(told.contains(what), "{what}: {told}");
     }
     assert!(told.contains(&format!("cargo:rustc-link-search=native={}", dir.join("out").display())), "{told}");
-    assert_eq!((&linked()[..], &calls()[..]), ("one", "staticlib c_api\n"));
-    assert!(run(&dir, "").0);
-    assert_eq!(calls(), "staticlib c_api\n");
+    assert_eq!((&linked()[..], &calls()[..]), ("one", "c_api_c: lib\n"));
+    let (fine, told, _) = run(&dir, "");
+    assert!(fine && !told.contains("/base/out\n"), "{told}");
+    assert_eq!(calls(), "c_api_c: lib\n");
     sleep(Duration::from_millis(20));
     fs::write(dir.join("crates/base/src/lib.txt"), "two").unwrap();
     assert!(run(&dir, "").0);
-    assert_eq!((&linked()[..], &calls()[..]), ("two", "staticlib c_api\nstaticlib c_api\n"));
+    assert_eq!((&linked()[..], &calls()[..]), ("two", "c_api_c: lib\nc_api_c: lib\n"));
 
     // a prebuilt archive of any name; one that is not there
     let other = dir.join("other.a");

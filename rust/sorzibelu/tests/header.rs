@@ -16,7 +16,8 @@ fn compile(compiler: &str, words: &[&str]) -> Option<Output> {
 
 #[test]
 fn a_c_program_links() {
-    let program = folder("header").join("header");
+    let dir = folder("header");
+    let program = dir.join("header");
     let source = Path::new(env!("CARGO_MANIFEST_DIR")).join("tests/header.c");
     let archive = Path::new(env!("OUT_DIR")).join("libc_api.a");
     let words = ["-std=c99", source.to_str().unwrap(), archive.to_str().unwrap(), "-o", program.to_str().unwrap()];
@@ -29,7 +30,8 @@ fn a_c_program_links() {
 
 #[test]
 fn the_header_is_c_plus_plus_too() {
-    let source = folder("plus").join("plus.cc");
+    let dir = folder("plus");
+    let source = dir.join("plus.cc");
     fs::write(&source, "#include \"sorzibelu.h\"\nint main() { return SORZIBELU_NUMBER(sorzibelu_check(nullptr, 0)) != SORZIBELU_LENGTH; }\n").unwrap();
     let Some(done) = compile("c++", &["-std=c++11", "-fsyntax-only", source.to_str().unwrap()]) else { return };
     assert!(done.status.success(), "{}", String::from_utf8_lossy(&done.stderr));

@@ -1,6 +1,6 @@
 //! `./run` as a newcomer types it, with a prover and a cargo that only pretend: what is said, in which order, and that two at once prove once.
 mod common;
-use common::{folder, root};
+use common::{Folder, folder, root};
 use std::{
     fs,
     os::unix::fs::PermissionsExt,
@@ -15,14 +15,19 @@ fn script(path: PathBuf, text: &str) {
     fs::set_permissions(&path, PermissionsExt::from_mode(0o755)).unwrap();
 }
 
-/// A repository with two crates (no file of theirs is called .rt: the real prover would miss its crate), a prover and a cargo that note each call in `calls`.
-fn repository(name: &str) -> PathBuf {
+/// What the prover says of a crate that it proves.
+const BASE: &str = "echo 'rt: chose --jobs 2 for base'\necho 'crate base: modules loaded=1 checked=2'\necho 'logic=proved functions=3'\n";
+
+/// A repository with two crates that are needed, a prover and a cargo that note each call in `calls`.
+fn repository(name: &str) -> Folder {
     let dir = folder(name);
-    for sub in ["bin", "tools", "crates/base/src", "crates/c_api/src", "rust/sorzibelu/src/bin/sorzibelu"] {
+    for sub in ["bin", "tools", "crates/base/src", "crates/c_api_c/src", "rust/sorzibelu/src/bin/sorzibelu"] {
         fs::create_dir_all(dir.join(sub)).unwrap();
     }
-    fs::copy(root().join("run"), dir.join("run")).unwrap();
-    fs::write(dir.join("crates.txt"), "# names\nbase:\nother: base\nc_api: base\n").unwrap();
+    for script in ["run", "tools/archive"] {
+        fs::copy(root().join(script), dir.join(script)).unwrap();
+    }
+    fs::write(dir.join("crates.txt"), "# names\nbase:\nother: base\nc_api_c staticlib: base\n").unwrap();
     fs::write(dir.join("crates/base/src/lib.txt"), "").unwrap();
     fs::write(dir.join("rust/Cargo.toml"), "").unwrap();
     fs::write(dir.join("rust/Cargo.lock"), "").unwrap();
@@ -30,8 +35,10 @@ fn repository(name: &str) -> PathBuf {
     fs::write(dir.join("a.sheet"), "").unwrap();
     script(
         dir.join("bin/rt"),
-        "echo \"rt $*\" >>calls\nsleep 0.3\nif [ \"$1\" = check ]; then echo 'rt: base proved (5 s)'; else mkdir -p target/staticlib && echo >target/staticlib/libc_api.a\n\
-         echo 'rt: base proved (unchanged since it was last proved)'\necho 'rt: target/staticlib/libc_api.a has the functions'; fi\n",
+        &format!(
+            "echo \"${{PWD##*/}}: rt $*\" >>../../calls\nsleep 0.3\n{BASE}mkdir -p out ../base/out && echo >out/libc_api_c.a && echo >../base/out/kept\n\
+             echo 'crate c_api_c: modules loaded=1 checked=2'\necho 'logic=proved functions=12'\n"
+        ),
     );
     script(
         dir.join("bin/cargo"),
@@ -66,23 +73,49 @@ fn the_first_run_says_what_it_proves_and_the_next_starts_at_once() {
     assert_eq!((status, &out[..]), (0, "answered page a.sheet\n"));
     assert_eq!(
         err,
-        "run: proving the 2 crates that the answers come from: base, c_api\nrun: that takes minutes, and is done once\n\
-         run: 1 of 2: base proved (5 s)\nrun: 2 of 2: c_api proved, and the archive written\nrun: building the command\n"
+        "run: proving the 2 crates that the answers come from: base, c_api_c\nrun: that takes minutes, and is done once\n\
+         run: 1 of 2: base proved\nrun: 2 of 2: c_api_c proved, and the archive written\nrun: building the command\n"
     );
-    assert_eq!(calls(&dir), ["rt check base", "rt staticlib c_api", "cargo"]);
+    assert_eq!(calls(&dir), ["c_api_c: rt lib", "cargo"]);
     for (words, page) in [(&["a.sheet"][..], "page a.sheet"), (&["-l", "a.sheet"], "live a.sheet"), (&["flow", "a.sheet"], "flow a.sheet"), (&["-"], "page -"), (&["--help"], "--help")] {
         assert_eq!(ran(&dir, words), (0, format!("answered {page}\n"), String::new()));
     }
-    assert_eq!(calls(&dir).len(), 3);
+    assert_eq!(calls(&dir).len(), 2);
     // a changed crate is proved again, a changed command built again
     sleep(Duration::from_millis(20));
     fs::write(dir.join("crates/base/src/lib.txt"), "changed").unwrap();
     assert_eq!(ran(&dir, &["a.sheet"]).0, 0);
-    assert_eq!(calls(&dir)[3..], ["rt check base", "rt staticlib c_api", "cargo"]);
+    assert_eq!(calls(&dir)[2..], ["c_api_c: rt lib", "cargo"]);
+    // what the prover keeps beside the sources is none of them
+    sleep(Duration::from_millis(20));
+    fs::write(dir.join("crates/base/out/kept"), "more").unwrap();
+    assert_eq!(ran(&dir, &["a.sheet"]).0, 0);
+    assert_eq!(calls(&dir).len(), 4);
     sleep(Duration::from_millis(20));
     fs::write(dir.join("rust/sorzibelu/src/bin/sorzibelu/list.rs"), "    name: \"list\",\n").unwrap();
     assert_eq!(ran(&dir, &["list", "a.sheet"]).1, "answered list a.sheet\n");
-    assert_eq!(calls(&dir)[6..], ["cargo"]);
+    assert_eq!(calls(&dir)[4..], ["cargo"]);
+}
+
+/// `--help` and `--version` before anything is proved: out of the sources, and the same commands as the built command's own.
+#[test]
+fn help_needs_no_proof() {
+    let dir = repository("run_help");
+    for file in fs::read_dir(root().join("rust/sorzibelu/src/bin/sorzibelu")).unwrap().map(|f| f.unwrap().path()) {
+        fs::copy(&file, dir.join("rust/sorzibelu/src/bin/sorzibelu").join(file.file_name().unwrap())).unwrap();
+    }
+    fs::copy(root().join("rust/Cargo.toml"), dir.join("rust/Cargo.toml")).unwrap();
+    let commands = |text: &str| text.lines().filter(|l| l.starts_with("  ")).map(String::from).collect::<Vec<_>>();
+    let built = common::run(&["--help"]).1;
+    for word in ["--help", "-h", "help"] {
+        let (status, out, err) = ran(&dir, &[word]);
+        assert!(status == 0 && out.starts_with("run FILE") && err.is_empty(), "{out}{err}");
+        assert_eq!(commands(&out), commands(&built));
+    }
+    for word in ["--version", "-V"] {
+        assert_eq!(ran(&dir, &[word]), common::run(&["--version"]));
+    }
+    assert!(calls(&dir).is_empty());
 }
 
 #[test]
@@ -91,7 +124,7 @@ fn four_at_once_prove_once() {
     let all: Vec<_> = (0..4).map(|_| start(&dir, &["a.sheet"]).spawn().unwrap()).collect();
     let outs: Vec<_> = all.into_iter().map(|c| said(&c.wait_with_output().unwrap())).collect();
     assert!(outs.iter().all(|o| o.0 == 0 && o.1 == "answered page a.sheet\n"), "{outs:?}");
-    assert_eq!(calls(&dir), ["rt check base", "rt staticlib c_api", "cargo"]);
+    assert_eq!(calls(&dir), ["c_api_c: rt lib", "cargo"]);
     assert_eq!(outs.iter().filter(|o| o.2.contains("another run is proving; waiting for it")).count(), 3);
 }
 
@@ -121,8 +154,8 @@ fn what_is_missing_is_said_before_the_proofs() {
 #[test]
 fn what_is_not_proved_is_not_answered() {
     let dir = repository("run_unproved");
-    script(dir.join("bin/rt"), "echo 'rt: base NOT PROVED (exit 1, 7 s)'\nexit 1\n");
+    script(dir.join("bin/rt"), "echo 'crate base: modules loaded=1 checked=2'\necho 'logic=not-proved: base'\nexit 1\n");
     let (status, out, err) = ran(&dir, &["a.sheet"]);
-    assert!(status == 2 && out.is_empty() && err.contains("rt: base NOT PROVED") && err.ends_with("run: not everything was proved, so nothing is answered\n"), "{err}");
+    assert!(status == 2 && out.is_empty() && !err.contains("1 of 2") && err.contains("logic=not-proved: base") && err.ends_with("run: not everything was proved, so nothing is answered\n"), "{err}");
     assert!(calls(&dir).is_empty());
 }

@@ -1,10 +1,11 @@
 //! The command as a house runs it.
 #![allow(dead_code)]
 use std::{
-    fs,
+    env, fs,
     io::Write,
+    ops::Deref,
     path::{Path, PathBuf},
-    process::{Command, Stdio},
+    process::{self, Command, Stdio},
     thread,
 };
 
@@ -17,12 +18,34 @@ pub fn stored(name: &str) -> String {
     root().join("sheets").join(name).display().to_string()
 }
 
-/// An empty folder of a test's own.
-pub fn folder(name: &str) -> PathBuf {
-    let dir = Path::new(env!("CARGO_TARGET_TMPDIR")).join(name);
+/// An empty folder of a test's own, which goes with it. It lies outside the checkout, where the gate takes no link and no second crates.txt.
+pub struct Folder(PathBuf);
+
+pub fn folder(name: &str) -> Folder {
+    let dir = env::temp_dir().join(format!("sorzibelu-{name}-{}", process::id()));
     let _ = fs::remove_dir_all(&dir);
     fs::create_dir_all(&dir).unwrap();
-    dir
+    Folder(dir)
+}
+
+impl Deref for Folder {
+    type Target = Path;
+
+    fn deref(&self) -> &Path {
+        &self.0
+    }
+}
+
+impl AsRef<Path> for Folder {
+    fn as_ref(&self) -> &Path {
+        self
+    }
+}
+
+impl Drop for Folder {
+    fn drop(&mut self) {
+        let _ = fs::remove_dir_all(&self.0);
+    }
 }
 
 /// A file in it.
