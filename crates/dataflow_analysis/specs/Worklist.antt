@@ -1,4 +1,4 @@
--- The first_in work list over any graph and any values that are joined: a node joins it when first met and each time its value grows. Assumes nothing.
+-- The first-in work list over any graph and any values that are joined: a node joins it when first met and each time its value grows. Assumes nothing.
 use Rattle.std.specs.Prelude.{◌≡◌, ℕ, zero, suc, Bool, cond, not, ◌||◌, List, [], ◌∷◌, ◌++◌, eqb, get_or, set, replicate}
 use Rattle.base.specs.Lists.{over}
 use Rattle.dataflow_analysis.specs.Lattice.{Lattice}

@@ -1,4 +1,4 @@
-// The first_in work list: its cursor by value beside the slice of keys, and a receipt over sets in a slice of words.
+// The first-in work list: its cursor by value beside the slice of keys, and a receipt over sets in a slice of words.
 #![tactic(auto)]
 
 ghost use Rattle.std.specs.Prelude.{◌≡◌, true, ◌+◌, ◌*◌, ◌<◌, ◌≤◌, length};

@@ -1,4 +1,4 @@
-// The engine of live: the first_in work list over the backward graph, in lent slices. Assumes nothing.
+// The engine of live: the first-in work list over the backward graph, in lent slices. Assumes nothing.
 ghost use Rattle.std.specs.Prelude.{◌≡◌, List, ℕ, ◌+◌, ◌-◌, ◌<◌, ◌≤◌, length, take};
 ghost use Rattle.base.specs.Lists.{tab};
 ghost use Rattle.dataflow_domains.specs.Sets.{mask};

@@ -16,7 +16,7 @@ use Rattle.base.specs.RefusalLaws.{found_at, found_none}
 use Rattle.base.specs.declared.Found.{Found}
 use Rattle.base.specs.declared.Found.TheVariants.{At, Nothing}
 
--- whether the record of place k in the block with bytes p is right: `placeOk` of the sheet
+-- whether the record of place k in the block with bytes p is right: `place_ok` of the sheet
 unfoldable pub in_block : List ℕ → ℕ → ℕ → ℕ → Bool
 in_block p from n k = cond (ltb k n) (record_ok (decode (record_in p from k))) (zeros (record_in p from k))
 

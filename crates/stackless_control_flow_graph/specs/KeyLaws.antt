@@ -23,7 +23,7 @@ offset_is o g = ap (λ (t : Bool). cond t [] (o ∷ [])) (sym (ne_eqb o no_offse
 offset_in_lem : (o : ℕ) → (o ≡ no_offset → ⊥) → Memᴰ o (offset_in o)
 offset_in_lem o g = subst (λ (l : List ℕ). Memᴰ o l) (offset_is o g) (Memᴰ.head refl)
 
--- ---- `keyIn`
+-- ---- `key_in`
 
 pub key_some : (ks : List ℕ) (o : ℕ) → has o ks ≡ true → key_in ks o ≡ key_of ks o
 unfolding key_of

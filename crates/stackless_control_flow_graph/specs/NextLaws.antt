@@ -11,7 +11,7 @@ use Rattle.stackless_bytecode.specs.Successors.{ascending}
 use Rattle.stackless_control_flow_graph.specs.Arrays.{succs_by}
 
 module _ (r : Bytecode) (one two next : ℕ) (call : r.kind ≡ Call) where
-  -- what `succsBy` gives of a Call
+  -- what `succs_by` gives of a Call
   call_is : {f x : Bool} → is_flagged r ≡ f → is_exit r ≡ x → succs_by r one two next ≡ ascending (take (length (cond f (r.one ∷ []) [])) (one ∷ two ∷ []) ++ cond (not x) (next ∷ []) [])
   unfolding succs_by branch_dests falls_through
   call_is ef ex =
