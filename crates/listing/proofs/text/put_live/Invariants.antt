@@ -7,10 +7,8 @@ use Rattle.listing.specs.TextLaws.{lines_none, lines_next, text_is}
 use mathlib.Core.Path.{sym}
 use Rattle.listing.proofs.text.put_live.Given as goal
 
--- TODO parameters ['sets', 'n', 'taken', 'out₀', 'at', 'e₀', 'k₀', 't9', 'out', 'e', 'k'] against variables [('sets', False), ('n', False), ('taken', False), ('out', True), ('at', False), ('e', True), ('k', True)]
 abbrev pub invariant-loop-k : goal.invariant-loop-k
 invariant-loop-k l = (l.k ≤ l.n) × Wrote l.initial.out l.at (lines 0 (infos_of l.k l.sets)) l.out l.e
 
--- TODO parameters ['sets', 'n', 'taken', 'out₀', 'at', 'e₀', 'k₀', 't9', 'out', 'e', 'k'] against variables [('sets', False), ('n', False), ('taken', False), ('out', True), ('at', False), ('e', True), ('k', True)]
 abbrev pub decreases-loop-k : goal.decreases-loop-k
 decreases-loop-k l = l.n - l.k

@@ -5,10 +5,8 @@ use Rattle.pages.specs.Parts.{block_lines}
 use Rattle.pages.specs.SectionLaws.{blocks_none, blocks_more, blocks_all}
 use Rattle.page_tables.proofs.blocks.put_blocks.Given as goal
 
--- TODO parameters ['table', 'm', 'out₀', 'at', 'n', 'e₀', 'i₀', 't9', 'out', 'e', 'i'] against variables [('table', False), ('m', False), ('out', True), ('at', False), ('n', False), ('e', True), ('i', True)]
 abbrev pub invariant-loop-i : goal.invariant-loop-i
 invariant-loop-i l = (l.i ≤ l.n) × Wrote l.initial.out l.at (block_lines l.table l.i) l.out l.e
 
--- TODO parameters ['table', 'm', 'out₀', 'at', 'n', 'e₀', 'i₀', 't9', 'out', 'e', 'i'] against variables [('table', False), ('m', False), ('out', True), ('at', False), ('n', False), ('e', True), ('i', True)]
 abbrev pub decreases-loop-i : goal.decreases-loop-i
 decreases-loop-i l = l.n - l.i

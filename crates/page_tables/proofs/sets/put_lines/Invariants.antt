@@ -6,10 +6,8 @@ use Rattle.pages.specs.Parts.{live_lines}
 use Rattle.pages.specs.SectionLaws.{live_none, live_more, live_all}
 use Rattle.page_tables.proofs.sets.put_lines.Given as goal
 
--- TODO parameters ['sets', 'n', 'taken', 'out₀', 'at', 'e₀', 'k₀', 't9', 'out', 'e', 'k'] against variables [('sets', False), ('n', False), ('taken', False), ('out', True), ('at', False), ('e', True), ('k', True)]
 abbrev pub invariant-loop-k : goal.invariant-loop-k
 invariant-loop-k l = (l.k ≤ l.n) × Wrote l.initial.out l.at (live_lines (infos_of l.n l.sets) l.k) l.out l.e
 
--- TODO parameters ['sets', 'n', 'taken', 'out₀', 'at', 'e₀', 'k₀', 't9', 'out', 'e', 'k'] against variables [('sets', False), ('n', False), ('taken', False), ('out', True), ('at', False), ('e', True), ('k', True)]
 abbrev pub decreases-loop-k : goal.decreases-loop-k
 decreases-loop-k l = l.n - l.k
