@@ -1,11 +1,8 @@
 -- Every state that the walk of dying nodes reaches is in order, the walk comes to rest, and it lists the dying nodes. Assumes nothing.
-use Rattle.std.specs.Prelude.{◌≡◌, refl, false, ℕ, zero, suc, ◌+◌, ◌-◌, ◌*◌, ◌^◌, ◌≤◌, ◌<◌, get_or, length, take}
-use Rattle.std.proofs.Math.Path.{sym, ap}
-use Rattle.std.proofs.Common.{◌∙◌, subst, ⊎_elim, arith, length-append, length-take-le, get_or-take}
+use Rattle.std.proofs.Common.{◌≡◌, refl, false, ℕ, zero, suc, ◌+◌, ◌-◌, ◌*◌, ◌^◌, ◌≤◌, ◌<◌, get_or, length, take, sym, ap, ◌∙◌, subst, ⊎_elim, arith, length-append, length-take-le, get_or-take, List, [], ◌∷◌, ◌++◌, pow_pos}
 use mathlib.Core.List.Memᴰ
-use mathlib.Core.List.{List, [], ◌∷◌, ◌++◌, Memᴰ}
+use mathlib.Core.List.{Memᴰ}
 use Rattle.std.proofs.Math.ListN.{get_or-append}
-use Rattle.std.proofs.Math.Pow.{pow_pos}
 use Rattle.std.proofs.lemmas.List.{get_or_at}
 use Rattle.base.specs.Lists.{keep, over, Distinct, empty, one}
 use Rattle.base.specs.ListLaws.{or-false, in_take, distinct_snoc}

@@ -1,16 +1,11 @@
 -- A step leaves what is still to be visited as it is, so that a walk lists what the visits of the definition do. Assumes nothing.
-use Rattle.std.proofs.Math.Path.{◌≡◌, refl, sym, ap}
-use Rattle.std.proofs.Common.{◌∙◌, subst, ⊎_elim, take-suc}
-use Rattle.std.specs.Prelude.{Bool, true, false, ◌||◌, eqb, take}
-use Rattle.std.proofs.Math.Bool.{cond, or-true as any-or-true}
-use mathlib.Core.List.{List, [], ◌∷◌, ◌++◌, Memᴰ}
+use Rattle.std.proofs.Common.{◌≡◌, refl, sym, ap, ◌∙◌, subst, ⊎_elim, take-suc, Bool, true, false, ◌||◌, eqb, take, cond, List, [], ◌∷◌, ◌++◌, ℕ, zero, suc, ◌+◌, ◌-◌, ◌*◌, ◌^◌, ◌≤◌, ◌<◌, arith, eqb-true, length, length-append, length-take-le}
+use Rattle.std.proofs.Math.Bool.{or-true as any-or-true}
+use mathlib.Core.List.{Memᴰ}
 use Rattle.std.proofs.Math.Option.{Option, none, some, some-injective}
-use Prim.Native.Nat.{ℕ, zero, suc, ◌+◌, ◌-◌, ◌*◌, ◌^◌, ◌≤◌, ◌<◌}
-use native.Mathlib.Omega.{arith}
-use borrow.Author.Tests.{eqb-true, eqb-false}
+use Rattle.std.proofs.lemmas.Bool.{eqb-false}
 use Rattle.std.specs.Int.Count.{ones}
-use Rattle.std.proofs.Math.ListN.{length, length-append}
-use Rattle.std.proofs.Math.Seq.{take-length, length-take-le}
+use Rattle.std.proofs.Math.Seq.{take-length}
 use Rattle.base.specs.Lists.{over}
 use Rattle.base.specs.ListLaws.{by_test, or-false, or-true}
 use Rattle.dataflow_domains.specs.Mask.{holds, Sub}

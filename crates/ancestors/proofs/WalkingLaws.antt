@@ -1,16 +1,9 @@
 -- The walk in the code's slices: the scan for the next parent, one step, and the walk from a node. Assumes nothing.
-use Rattle.std.specs.Prelude.{◌≡◌, refl, Bool, true, false, ◌||◌, length, drop, set}
-use Rattle.std.proofs.Math.Path.{sym, ap, ap₂}
-use Rattle.std.proofs.Common.{◌∙◌, subst, arith, eq-eqb, ne_eqb, length-set, pow_pos, take-take, length-take-le, drop-set-lt}
-use Rattle.std.proofs.Math.Bool.{cond}
-use mathlib.Core.List.{List, Memᴰ}
+use Rattle.std.proofs.Common.{◌≡◌, refl, Bool, true, false, ◌||◌, length, drop, set, sym, ap, ap₂, ◌∙◌, subst, arith, eq-eqb, ne_eqb, length-set, pow_pos, take-take, length-take-le, drop-set-lt, cond, List, ℕ, zero, suc, ◌+◌, ◌-◌, ◌*◌, ◌/◌, ◌^◌, ◌≤◌, ◌<◌, le_refl, add-one, get_or, take, get_or-take, take-suc-set}
+use mathlib.Core.List.{Memᴰ}
 use Rattle.std.proofs.Math.Option.{none, some}
-use Prim.Native.Nat.{ℕ, zero, suc, ◌+◌, ◌-◌, ◌*◌, ◌/◌, ◌^◌, ◌≤◌, ◌<◌}
-use Rattle.std.proofs.Math.Nat.{le_refl, sub-zero}
-use Rattle.std.proofs.Math.Numerals.{add-one}
+use Rattle.std.proofs.Math.Nat.{sub-zero}
 use Rattle.std.specs.Int.Count.{ones}
-use Rattle.std.proofs.Math.ListN.{get_or, take}
-use Rattle.std.proofs.Math.Seq.{get_or-take, take-suc-set}
 use Rattle.base.specs.Sizes.{max_locals}
 use Rattle.base.specs.Lists.{tab}
 use Rattle.base.specs.ListLaws.{by_eq, or-false}

@@ -1,6 +1,6 @@
 -- The walk over the ancestors of dying nodes as states and one step: a list that grows and shrinks, which is the path, and the nodes listed. Assumes nothing.
-use Rattle.std.specs.Prelude.{ℕ, zero, suc, ◌+◌, ◌-◌, ◌*◌, ◌≤◌, ◌<◌, ◌≡◌, Bool, false, cond, ◌||◌, eqb, get_or, length, take}
-use mathlib.Core.List.{List, [], ◌∷◌, ◌++◌, Memᴰ}
+use Rattle.std.specs.Prelude.{ℕ, zero, suc, ◌+◌, ◌-◌, ◌*◌, ◌≤◌, ◌<◌, ◌≡◌, Bool, false, cond, ◌||◌, eqb, get_or, length, take, List, [], ◌∷◌, ◌++◌}
+use mathlib.Core.List.{Memᴰ}
 use Rattle.std.proofs.Math.Option.{Option, none, some}
 use Rattle.base.specs.Lists.{keep, over, Distinct}
 use Rattle.dataflow_domains.specs.Mask.{bit, holds}

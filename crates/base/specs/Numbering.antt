@@ -1,6 +1,6 @@
 -- Numbers in the order of first mention: what the arrays hold in which they are given. Assumes nothing.
-use Rattle.std.specs.Prelude.{◌≡◌, cond, ℕ, ◌+◌, ◌≤◌, ◌<◌, get_or, length, take}
-use mathlib.Core.List.{List, Memᴰ}
+use Rattle.std.specs.Prelude.{◌≡◌, cond, ℕ, ◌+◌, ◌≤◌, ◌<◌, get_or, length, take, List}
+use mathlib.Core.List.{Memᴰ}
 use Rattle.base.specs.Lists.{has, place, firsts, Distinct}
 
 -- the number of x, from `first` on, where those of xs have numbers, and 0 where it has none

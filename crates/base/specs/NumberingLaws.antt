@@ -1,11 +1,8 @@
 -- Numbers in the order of first mention, one after the other: what `firsts` gives step by step. Assumes nothing.
-use Rattle.std.specs.Prelude.{◌≡◌, refl, ◌≢◌, Bool, true, false, ◌||◌, ℕ, ◌+◌, ◌≤◌, ◌<◌, get_or, set, length, take}
-use Rattle.std.proofs.Common.{sym, ap₂, ◌∙◌, subst, ⊎_elim, true≢false, add-one, eq-eqb, ne_eqb, length-set, length-take-le, take-suc, take-suc-set, get_or-set_same, get_or-set_other}
-use Rattle.std.proofs.Math.Path.{ap}
-use Rattle.std.proofs.Math.Bool.{cond}
+use Rattle.std.specs.Prelude.{◌≡◌, refl, ◌≢◌, Bool, true, false, ◌||◌, ℕ, ◌+◌, ◌≤◌, ◌<◌, get_or, set, length, take, cond, List, [], ◌∷◌, ◌++◌}
+use Rattle.std.proofs.Common.{sym, ap₂, ◌∙◌, subst, ⊎_elim, true≢false, add-one, eq-eqb, ne_eqb, length-set, length-take-le, take-suc, take-suc-set, get_or-set_same, get_or-set_other, ap, arith}
 use mathlib.Core.List.Memᴰ
-use mathlib.Core.List.{List, [], ◌∷◌, ◌++◌, Memᴰ}
-use native.Mathlib.Omega.{arith}
+use mathlib.Core.List.{Memᴰ}
 use Rattle.base.specs.Lists.{has, place, firsts, Distinct}
 use Rattle.base.specs.ListLaws.{by_test, by_eq, in_has, firsts_distinct}
 use Rattle.base.specs.GrowLaws.{has_append, place_front, place_end, firsts_append, firsts_old, firsts_new, below_few}

@@ -1,12 +1,8 @@
 -- The visits of the definition: the parents of a node, one visit, and that what is visited only grows. Assumes nothing.
-use Rattle.std.specs.Prelude.{◌≡◌, Bool, cond, ◌||◌, eqb}
-use Rattle.std.proofs.Math.Path.{refl, ap}
-use Rattle.std.proofs.Common.{sym, ◌∙◌, subst, ⊎_elim, eq-eqb, eqb-true, length-append}
-use Rattle.std.proofs.Math.Bool.{true, false}
+use Rattle.std.specs.Prelude.{◌≡◌, Bool, cond, ◌||◌, eqb, refl, true, false, List, [], ◌∷◌, ℕ, zero, suc, ◌-◌, ◌^◌, ◌<◌}
+use Rattle.std.proofs.Common.{ap, sym, ◌∙◌, subst, ⊎_elim, eq-eqb, eqb-true, length-append, arith}
 use mathlib.Core.List.Memᴰ
-use mathlib.Core.List.{List, [], ◌∷◌, Memᴰ}
-use Prim.Native.Nat.{ℕ, zero, suc, ◌-◌, ◌^◌, ◌<◌}
-use native.Mathlib.Omega.{arith}
+use mathlib.Core.List.{Memᴰ}
 use Rattle.std.specs.Int.Count.{ones}
 use Rattle.std.proofs.Math.Pow.{pow-lt}
 use Rattle.base.specs.Lists.{over}

@@ -1,14 +1,11 @@
 -- What `above` means: a node is above a set where it is in it or has a descendant in it, on cycles too. Assumes nothing.
-use Rattle.std.specs.Prelude.{◌≡◌, ◌⊎◌, Bool, true, false}
-use Rattle.std.proofs.Math.Path.{refl}
-use Rattle.std.proofs.Common.{sym, ap, ◌∙◌, subst, inl, inr, ⊎_elim, arith}
-use Rattle.std.proofs.Math.Bool.{cond}
+use Rattle.std.specs.Prelude.{◌≡◌, ◌⊎◌, Bool, true, false, refl, cond, List, [], ◌∷◌, ℕ, zero, suc, ◌-◌, ◌^◌, ◌≤◌, ◌<◌}
+use Rattle.std.proofs.Common.{sym, ap, ◌∙◌, subst, inl, inr, ⊎_elim, arith, zero-le, pow_pos}
 use mathlib.Core.List.Memᴰ
-use mathlib.Core.List.{List, [], ◌∷◌, Memᴰ}
-use Prim.Native.Nat.{ℕ, zero, suc, ◌-◌, ◌^◌, ◌≤◌, ◌<◌, zero-le}
+use mathlib.Core.List.{Memᴰ}
 use Rattle.std.proofs.Math.Decide.{ℕ_discrete}
 use Rattle.std.specs.Int.Count.{ones, ones-ones}
-use Rattle.std.proofs.Math.Pow.{pow-lt, pow_pos}
+use Rattle.std.proofs.Math.Pow.{pow-lt}
 use Rattle.dataflow_domains.specs.Mask.{bit, holds, Sub}
 use Rattle.dataflow_domains.specs.MaskLaws.{bit_lt, bit_union, bit_empty, bit_self, bit_other, sub_refl, sub_trans, sub_antisymm, sub_union_l, sub_union_r, sub_full, sub_at, union_lt, ones_mono, ones_same}
 use Rattle.dataflow_domains.specs.HoldsLaws.{holds_true, true_holds}

@@ -1,12 +1,8 @@
 -- Which nodes the visits list: each once, none but those that the walk of dying nodes reaches, and all of these, at any depth from the count on. Assumes nothing.
-use Rattle.std.proofs.Math.Path.{◌≡◌, refl, ap, subst}
-use Rattle.std.proofs.Common.{sym, ◌∙◌, arith}
-use Rattle.std.proofs.Math.Logic.{inl, inr, ⊎_elim}
-use Rattle.std.specs.Prelude.{Bool, ◌||◌}
-use Rattle.std.proofs.Math.Bool.{true, false}
+use Rattle.std.specs.Prelude.{◌≡◌, refl, Bool, ◌||◌, true, false, List, [], ◌∷◌, ◌++◌, ℕ, zero, suc, ◌+◌, ◌^◌, ◌≤◌, ◌<◌}
+use Rattle.std.proofs.Common.{ap, subst, sym, ◌∙◌, arith, inl, inr, ⊎_elim}
 use mathlib.Core.List.Memᴰ
-use mathlib.Core.List.{List, [], ◌∷◌, ◌++◌, Memᴰ}
-use Prim.Native.Nat.{ℕ, zero, suc, ◌+◌, ◌^◌, ◌≤◌, ◌<◌}
+use mathlib.Core.List.{Memᴰ}
 use Rattle.std.specs.Int.Count.{ones}
 use Rattle.std.proofs.Math.Pow.{pow-lt}
 use Rattle.base.specs.Lists.{over, one}

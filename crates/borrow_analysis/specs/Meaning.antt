@@ -1,6 +1,6 @@
 -- What the answers mean: paths over triples, nodes in use, conditional nodes, and the nodes that a walk of dying ones reaches. Assumes nothing.
-use Rattle.std.specs.Prelude.{◌≡◌, Bool, true, ℕ, ◌≤◌, ◌<◌}
-use mathlib.Core.List.{List, Memᴰ}
+use Rattle.std.specs.Prelude.{◌≡◌, Bool, true, ℕ, ◌≤◌, ◌<◌, List}
+use mathlib.Core.List.{Memᴰ}
 use Rattle.base.specs.Lists.{Distinct}
 use Rattle.dataflow_domains.specs.Mask.{bit}
 use Rattle.borrow_analysis.specs.declared.triples.Triple.{Triple}

@@ -1,9 +1,8 @@
 -- The answers of accepted calls mean what Meaning says, on cycles too. Assumes nothing.
-use Rattle.std.specs.Prelude.{◌≡◌, refl, Bool, true, false, cond, ℕ, ◌/◌, ◌^◌, ◌≤◌, ◌<◌, eqb, length}
-use Rattle.std.proofs.Common.{sym, ap, ◌∙◌, subst, ⊎_elim, arith, ltb-true, lt-ltb, pow_pos}
-use Rattle.std.proofs.Math.Bool.{true≢false}
+use Rattle.std.specs.Prelude.{◌≡◌, refl, Bool, true, false, cond, ℕ, ◌/◌, ◌^◌, ◌≤◌, ◌<◌, eqb, length, List, []}
+use Rattle.std.proofs.Common.{sym, ap, ◌∙◌, subst, ⊎_elim, arith, ltb-true, lt-ltb, pow_pos, true≢false}
 use mathlib.Core.List.Memᴰ
-use mathlib.Core.List.{List, [], Memᴰ}
+use mathlib.Core.List.{Memᴰ}
 use Rattle.base.specs.Lists.{over, empty}
 use Rattle.base.specs.JoinLaws.{by_lt}
 use Rattle.base.specs.TabLaws.{over_keeps}

@@ -1,10 +1,9 @@
 -- The visits in lent bytes: room for a node more, one visit, what was written, and the nodes to start from. Assumes nothing.
-use Rattle.std.specs.Prelude.{◌≡◌, refl, false, ℕ, ◌+◌, ◌-◌, ◌*◌, ◌/◌, ◌^◌, ◌≤◌, ◌<◌}
-use Rattle.std.proofs.Common.{sym, ap, ap₂, ◌∙◌, subst, le_refl, add-one, arith, pow_pos, take-suc-set, drop-set-lt, drop-drop, take_at, drop_at, length-take-le}
-use mathlib.Core.List.{List, [], ◌∷◌, ◌++◌, append_assoc, Memᴰ}
+use Rattle.std.specs.Prelude.{◌≡◌, refl, false, ℕ, ◌+◌, ◌-◌, ◌*◌, ◌/◌, ◌^◌, ◌≤◌, ◌<◌, List, [], ◌∷◌, ◌++◌, get_or, length, take, drop, set}
+use Rattle.std.proofs.Common.{sym, ap, ap₂, ◌∙◌, subst, le_refl, add-one, arith, pow_pos, take-suc-set, drop-set-lt, drop-drop, take_at, drop_at, length-take-le, append_assoc, length-set, length-append, length-drop, take-append-drop}
+use mathlib.Core.List.{Memᴰ}
 use Rattle.std.specs.Int.Count.{ones}
 use Rattle.std.proofs.lemmas.Nat.{ones-le}
-use lib.ListN.{get_or, length, take, drop, set, length-set, length-append, length-drop, take-append-drop}
 use Rattle.std.proofs.Math.Pow.{pow-lt}
 use Rattle.std.proofs.lemmas.List.{drop-append-le}
 use Rattle.base.specs.Lists.{over}

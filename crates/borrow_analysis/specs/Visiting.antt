@@ -1,6 +1,6 @@
 -- What the contracts, the loops and the laws of the visits of dying nodes say. Assumes nothing.
-use Rattle.std.specs.Prelude.{◌≡◌, ◌⊎◌, true, ℕ, ◌^◌, ◌≤◌, ◌<◌, length, take, drop}
-use mathlib.Core.List.{List, ◌++◌, Memᴰ}
+use Rattle.std.specs.Prelude.{◌≡◌, ◌⊎◌, true, ℕ, ◌^◌, ◌≤◌, ◌<◌, length, take, drop, List, ◌++◌}
+use mathlib.Core.List.{Memᴰ}
 use Rattle.std.specs.Int.Count.{ones}
 use Rattle.base.specs.Lists.{over, Distinct}
 use Rattle.dataflow_domains.specs.Mask.{bit, holds, Sub}

@@ -1,7 +1,6 @@
 -- The checks of a class set one after the other, what live replies to a sheet with its own bytes lent, and the outputs sheet by sheet. Assumes nothing.
 use Rattle.std.specs.Prelude.{◌≡◌, refl, ◌≢◌, Bool, true, false, cond, ◌&&◌, List, [], ◌∷◌, ◌++◌, ℕ, suc, ◌+◌, ◌-◌, ◌*◌, ◌%◌, ◌≤◌, ◌<◌, eqb, leb, length, take, drop}
-use Rattle.std.proofs.Common.{sym, ◌∙◌, subst, add-one, arith, eq-eqb, ne_eqb, le-leb, leb-true, length-take, length-drop}
-use Rattle.std.proofs.Math.Path.{ap, ap₂}
+use Rattle.std.proofs.Common.{sym, ◌∙◌, subst, add-one, arith, eq-eqb, ne_eqb, le-leb, leb-true, length-take, length-drop, ap, ap₂}
 use Rattle.std.proofs.Math.Bool.{and-false}
 use Rattle.std.proofs.lemmas.Bool.{lt-leb}
 use Rattle.base.specs.Sizes.{block_bytes, pair_bytes, max_sheets, slot_bytes, answer_numbers}

@@ -1,9 +1,7 @@
 -- What the outputs of a class set say of each sheet; the same sheet at the same place of two class sets. Assumes nothing.
-use Rattle.std.specs.Prelude.{◌≡◌, refl, ℕ, ◌+◌, ◌*◌, ◌≤◌, ◌<◌, length, drop}
-use Rattle.std.proofs.Common.{sym, ◌∙◌, subst, add-zero, arith, get_or-take, get_or-drop}
-use Rattle.std.proofs.Math.Path.{ap}
-use mathlib.Core.List.{List, [], ◌∷◌, ◌++◌}
-use Rattle.std.proofs.Math.ListN.{get_or, get_or-append}
+use Rattle.std.specs.Prelude.{◌≡◌, refl, ℕ, ◌+◌, ◌*◌, ◌≤◌, ◌<◌, length, drop, List, [], ◌∷◌, ◌++◌, get_or}
+use Rattle.std.proofs.Common.{sym, ◌∙◌, subst, add-zero, arith, get_or-take, get_or-drop, ap}
+use Rattle.std.proofs.Math.ListN.{get_or-append}
 use Rattle.base.specs.Sizes.{pair_bytes, slot_bytes, answer_numbers}
 use Rattle.base.specs.Lists.{joins}
 use Rattle.base.specs.Bytes.{part}

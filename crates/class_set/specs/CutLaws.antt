@@ -1,10 +1,6 @@
 -- Where the sheets of a class set start, as the loops find it, and that each is a part of it. Assumes nothing.
-use Rattle.std.specs.Prelude.{◌≡◌, true, false, List, [], length}
-use Rattle.std.proofs.Common.{sym, ◌∙◌, add-one}
-use Rattle.std.proofs.Math.Path.{ap, ap₂}
-use Prim.Native.Nat.{ℕ, suc, ◌+◌, ◌-◌, ◌*◌, ◌≤◌, ◌<◌}
-use native.Mathlib.Omega.{arith}
-use Rattle.std.proofs.Math.ListN.{get_or}
+use Rattle.std.specs.Prelude.{◌≡◌, true, false, List, [], length, ℕ, suc, ◌+◌, ◌-◌, ◌*◌, ◌≤◌, ◌<◌, get_or}
+use Rattle.std.proofs.Common.{sym, ◌∙◌, add-one, ap, ap₂, arith}
 use Rattle.base.specs.Sizes.{block_bytes}
 use Rattle.base.specs.Lists.{keep}
 use Rattle.base.specs.Bytes.{part}

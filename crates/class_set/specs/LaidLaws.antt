@@ -1,14 +1,7 @@
 -- Sheets laid end to end are cut as they were laid: those that the checks accept, and all others of whose blocks the first alone is numbered 0. Assumes nothing.
-use Rattle.std.specs.Prelude.{◌≡◌, Bool, true, false, cond, ◌&&◌, drop}
-use Rattle.std.proofs.Math.Path.{refl, sym, ap, ap₂}
-use Rattle.std.proofs.Common.{◌∙◌, add-zero, zero-add, get_or-append-add}
-use mathlib.Core.List.{List, [], ◌∷◌, ◌++◌, append-nil}
-use Prim.Native.Nat.{ℕ, zero, suc, ◌+◌, ◌-◌, ◌*◌, ◌≤◌, ◌<◌}
-use native.Mathlib.Omega.{arith}
-use borrow.Author.Tests.{ne_eqb, eqb-true}
-use Rattle.std.proofs.Math.Dec.{eqb}
-use Rattle.std.proofs.Math.ListN.{length, get_or, take, length-append, get_or-append, get_or-eq_default}
-use Rattle.std.proofs.Math.Seq.{get_or-take, get_or-drop}
+use Rattle.std.specs.Prelude.{◌≡◌, Bool, true, false, cond, ◌&&◌, drop, refl, List, [], ◌∷◌, ◌++◌, ℕ, zero, suc, ◌+◌, ◌-◌, ◌*◌, ◌≤◌, ◌<◌, eqb, length, get_or, take}
+use Rattle.std.proofs.Common.{sym, ap, ap₂, ◌∙◌, add-zero, zero-add, get_or-append-add, append-nil, arith, ne_eqb, eqb-true, length-append, get_or-take, get_or-drop}
+use Rattle.std.proofs.Math.ListN.{get_or-append, get_or-eq_default}
 use Rattle.base.specs.Sizes.{block_bytes}
 use Rattle.base.specs.Lists.{tab, keep, joins}
 use Rattle.base.specs.Bytes.{part, u16_at}

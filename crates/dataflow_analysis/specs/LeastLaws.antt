@@ -1,7 +1,7 @@
 -- Where `out` is monotone the work list gives the least solution: each value is exactly the join of what is handed to it, and no solution has less. Assumes nothing.
-use Rattle.std.specs.Prelude.{◌≡◌, ℕ, ◌+◌, ◌*◌, ◌≤◌, ◌<◌}
+use Rattle.std.specs.Prelude.{◌≡◌, ℕ, ◌+◌, ◌*◌, ◌≤◌, ◌<◌, List, ◌∷◌}
 use Rattle.std.proofs.Common.{sym, ap, ◌∙◌, subst}
-use mathlib.Core.List.{List, ◌∷◌, Memᴰ}
+use mathlib.Core.List.{Memᴰ}
 use Rattle.base.specs.ListLaws.{by_eq}
 use Rattle.dataflow_analysis.specs.Lattice.{Lattice, Laws, Bounded}
 use Rattle.dataflow_analysis.specs.Worklist.{State, set_at, Met, joined, receive, begin, popped, step, run}

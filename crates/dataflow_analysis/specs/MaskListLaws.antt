@@ -1,7 +1,7 @@
 -- The work list over sets of locals: the first instance of the general theorem, said by elements. Assumes nothing.
-use Rattle.std.specs.Prelude.{◌≡◌, ◌⊎◌, ℕ, zero, suc, ◌+◌, ◌-◌, ◌*◌, ◌^◌, ◌≤◌, ◌<◌, get_or}
+use Rattle.std.specs.Prelude.{◌≡◌, ◌⊎◌, ℕ, zero, suc, ◌+◌, ◌-◌, ◌*◌, ◌^◌, ◌≤◌, ◌<◌, get_or, List, []}
 use Rattle.std.proofs.Common.{sym, ap, subst, inl, inr, not-suc-le-zero, arith, eqb-true}
-use mathlib.Core.List.{List, [], Memᴰ}
+use mathlib.Core.List.{Memᴰ}
 use Rattle.std.proofs.Math.Decide.{ℕ_discrete}
 use Rattle.std.proofs.lemmas.Bool.{eqb-false}
 use Rattle.std.specs.Int.Count.{ones, ones-ones}

@@ -1,10 +1,6 @@
 -- What the cursor's methods and the main loop's turns are to the definition's list and state. Assumes nothing.
-use Rattle.std.specs.Prelude.{◌≡◌, get_or, set, length, take, drop}
-use Rattle.std.proofs.Math.Path.{refl, ap}
-use Rattle.std.proofs.Common.{sym, ap₂, ◌∙◌, zero-add, add-one, length-drop, drop-cons, take-suc-set, length-take-le}
-use mathlib.Core.List.{List, [], ◌∷◌}
-use Prim.Native.Nat.{ℕ, zero, suc, ◌+◌, ◌-◌, ◌≤◌, ◌<◌}
-use native.Mathlib.Omega.{arith}
+use Rattle.std.specs.Prelude.{◌≡◌, get_or, set, length, take, drop, refl, List, [], ◌∷◌, ℕ, zero, suc, ◌+◌, ◌-◌, ◌≤◌, ◌<◌}
+use Rattle.std.proofs.Common.{ap, sym, ap₂, ◌∙◌, zero-add, add-one, length-drop, drop-cons, take-suc-set, length-take-le, arith}
 use Rattle.std.proofs.lemmas.List.{drop-set-add}
 use Rattle.dataflow_analysis.specs.declared.Cursor.{Cursor}
 use Rattle.dataflow_analysis.specs.declared.FirstKey.TheVariants.{Key, Empty}

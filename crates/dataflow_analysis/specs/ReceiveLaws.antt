@@ -1,15 +1,12 @@
 -- What always holds of the nodes of a work list, at the beginning and after a receipt, and what a receipt does. Assumes nothing.
-use Rattle.std.specs.Prelude.{◌≡◌, ◌⊎◌, ◌≢◌, true, false, cond, not, ℕ, suc, ◌+◌, ◌≤◌, ◌<◌, eqb, set, length, replicate}
-use Rattle.std.proofs.Math.Path.{refl, ap, subst}
-use Rattle.std.proofs.Common.{sym, ap₂, ◌∙◌, arith}
-use Rattle.std.proofs.Math.Logic.{inl, inr, ⊎_elim}
+use Rattle.std.specs.Prelude.{◌≡◌, ◌⊎◌, ◌≢◌, true, false, cond, not, ℕ, suc, ◌+◌, ◌≤◌, ◌<◌, eqb, set, length, replicate, refl, List, [], ◌∷◌, map, get_or}
+use Rattle.std.proofs.Common.{ap, subst, sym, ap₂, ◌∙◌, arith, inl, inr, ⊎_elim, eqb-true, length-set, length-append, get_or-set_same, get_or-set_other}
 use mathlib.Core.List.Memᴰ
-use mathlib.Core.List.{List, [], ◌∷◌, map, Memᴰ}
+use mathlib.Core.List.{Memᴰ}
 use Rattle.std.proofs.Math.Decide.{ℕ_discrete}
-use borrow.Author.Tests.{eqb-true, eqb-false, not-true, not-false}
-use Rattle.std.proofs.Math.ListN.{get_or, length-set, length-append, length-replicate, get_or-map}
-use Rattle.std.proofs.lemmas.List.{length-map}
-use Rattle.std.proofs.Math.Seq.{get_or-set_same, get_or-set_other}
+use Rattle.std.proofs.lemmas.Bool.{eqb-false, not-true, not-false}
+use Rattle.std.proofs.lemmas.List.{length-replicate, length-map}
+use Rattle.std.proofs.Math.ListN.{get_or-map}
 use Rattle.base.specs.Lists.{over, sum}
 use Rattle.base.specs.ListLaws.{or-false, or-true, by_test, copies_at, map_set, sum_set}
 use Rattle.dataflow_analysis.specs.Lattice.{Lattice, Laws, Bounded}

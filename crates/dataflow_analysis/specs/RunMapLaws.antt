@@ -1,12 +1,7 @@
 -- A work list over values and one over their images: where the image keeps joins, tests and what is handed on, its run is the image of the run. Assumes nothing.
-use Rattle.std.specs.Prelude.{◌≡◌, Bool, ◌||◌, get_or}
-use Rattle.std.proofs.Math.Path.{refl, sym, ap, ap₂, subst}
-use Rattle.std.proofs.Common.{◌∙◌}
-use Rattle.std.proofs.Math.Bool.{cond, not}
-use mathlib.Core.List.{List, [], ◌∷◌, map}
-use Prim.Native.Nat.{ℕ, zero, suc}
-use Rattle.std.proofs.Math.Dec.{eqb}
-use Rattle.std.proofs.Math.ListN.{set, replicate, get_or-map}
+use Rattle.std.specs.Prelude.{◌≡◌, Bool, ◌||◌, get_or, refl, cond, not, List, [], ◌∷◌, map, ℕ, zero, suc, eqb, set, replicate}
+use Rattle.std.proofs.Common.{sym, ap, ap₂, subst, ◌∙◌}
+use Rattle.std.proofs.Math.ListN.{get_or-map}
 use Rattle.base.specs.Lists.{over}
 use Rattle.base.specs.ListLaws.{by_test, copies_at, map_set}
 use Rattle.dataflow_analysis.specs.Lattice.{Lattice}

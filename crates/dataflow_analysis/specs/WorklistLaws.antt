@@ -1,15 +1,10 @@
 -- The work list ends, over any graph and any values with a join: each node has handed on what it has, and no more are taken than the values can grow. Assumes nothing.
-use Rattle.std.specs.Prelude.{◌≡◌, ◌⊎◌, ◌≢◌, true, cond, eqb, get_or, set, replicate}
-use Rattle.std.proofs.Math.Path.{refl, ap, subst}
-use Rattle.std.proofs.Common.{sym, ◌∙◌, not-suc-le-zero, arith, eq-eqb, ne_eqb, length-set, get_or-set_same, get_or-set_other}
-use Rattle.std.proofs.Math.Logic.{inl, inr, ⊎_elim}
+use Rattle.std.specs.Prelude.{◌≡◌, ◌⊎◌, ◌≢◌, true, cond, eqb, get_or, set, replicate, refl, List, [], ◌∷◌, map, ℕ, zero, suc, ◌+◌, ◌-◌, ◌*◌, ◌≤◌, ◌<◌, length}
+use Rattle.std.proofs.Common.{ap, subst, sym, ◌∙◌, not-suc-le-zero, arith, eq-eqb, ne_eqb, length-set, get_or-set_same, get_or-set_other, inl, inr, ⊎_elim, mul-one}
 use mathlib.Core.List.Memᴰ
-use mathlib.Core.List.{List, [], ◌∷◌, map, Memᴰ}
-use Prim.Native.Nat.{ℕ, zero, suc, ◌+◌, ◌-◌, ◌*◌, ◌≤◌, ◌<◌}
-use Rattle.std.proofs.Math.Nat.{mul-one}
+use mathlib.Core.List.{Memᴰ}
 use Rattle.std.proofs.Math.Decide.{ℕ_discrete}
-use Rattle.std.proofs.Math.ListN.{length, length-replicate}
-use Rattle.std.proofs.lemmas.List.{length-map}
+use Rattle.std.proofs.lemmas.List.{length-replicate, length-map}
 use Rattle.base.specs.Lists.{over, sum}
 use Rattle.base.specs.ListLaws.{by_test, by_eq, copies_at, sum_set, sum_le}
 use Rattle.dataflow_analysis.specs.Lattice.{Lattice, Laws, Bounded}

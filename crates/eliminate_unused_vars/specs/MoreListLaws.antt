@@ -1,10 +1,7 @@
 -- What base does not say of lists: the elements of `take`; `map` under `take`, `drop`, `tab` and `gather`; `has` of `keep`; `firsts`, also under `map`. Assumes nothing.
-use Rattle.std.specs.Prelude.{◌≡◌, Bool, false, ◌&&◌, ℕ, zero, suc, ◌+◌, ◌≤◌, ◌<◌, ltb, get_or, length, take, drop}
-use Rattle.std.proofs.Math.Path.{refl, sym, ap}
-use Rattle.std.proofs.Common.{ap₂, ◌∙◌, subst, true≢false, arith, ltb-true, lt-ltb, get_or-take, length-take-le}
-use Rattle.std.proofs.Math.Logic.{⊎_elim}
-use Rattle.std.proofs.Math.Bool.{cond}
-use mathlib.Core.List.{List, [], ◌∷◌, ◌++◌, map, append-nil, append_assoc, Memᴰ}
+use Rattle.std.specs.Prelude.{◌≡◌, Bool, false, ◌&&◌, ℕ, zero, suc, ◌+◌, ◌≤◌, ◌<◌, ltb, get_or, length, take, drop, refl, cond, List, [], ◌∷◌, ◌++◌, map}
+use Rattle.std.proofs.Common.{sym, ap, ap₂, ◌∙◌, subst, true≢false, arith, ltb-true, lt-ltb, get_or-take, length-take-le, ⊎_elim, append-nil, append_assoc}
+use mathlib.Core.List.{Memᴰ}
 use Rattle.base.specs.Lists.{tab, keep, gather, has, firsts}
 use Rattle.base.specs.ListLaws.{and-true, by_test, has_in, in_has, keep_in, in_keep, map_in, in_map, get_d_in, in_tab, tab_snoc}
 use Rattle.base.specs.GrowLaws.{map_append, firsts_append, firsts_new}

@@ -1,6 +1,6 @@
 -- What the arrays hold in which new numbers are given and looked up: one more than its new number by local, and the locals by new number. Assumes nothing.
-use Rattle.std.specs.Prelude.{◌≡◌, true, ℕ, suc, ◌-◌, ◌≤◌, ◌<◌, get_or, length, take}
-use mathlib.Core.List.{List, Memᴰ}
+use Rattle.std.specs.Prelude.{◌≡◌, true, ℕ, suc, ◌-◌, ◌≤◌, ◌<◌, get_or, length, take, List}
+use mathlib.Core.List.{Memᴰ}
 use Rattle.base.specs.Sizes.{max_locals, list_places}
 use Rattle.stackless_bytecode.specs.declared.Bytecode.{Bytecode}
 use Rattle.stackless_bytecode.specs.Kinds.{is_flagged}

@@ -1,7 +1,7 @@
 -- Numbers for the places of a list, for what an instruction mentions and for all locals that stay; and what `Named` says of the arrays. Assumes nothing.
-use Rattle.std.specs.Prelude.{◌≡◌, true, false, ℕ, suc, ◌+◌, ◌≤◌, ◌<◌, get_or, length, take}
+use Rattle.std.specs.Prelude.{◌≡◌, true, false, ℕ, suc, ◌+◌, ◌≤◌, ◌<◌, get_or, length, take, List, [], ◌∷◌, ◌++◌}
 use Rattle.std.proofs.Common.{sym, ap, ◌∙◌, subst, arith, length-take-le}
-use mathlib.Core.List.{List, [], ◌∷◌, ◌++◌, Memᴰ}
+use mathlib.Core.List.{Memᴰ}
 use Rattle.base.specs.Sizes.{max_locals, list_places}
 use Rattle.base.specs.Numbering.{Numbers, Gives}
 use Rattle.base.specs.NumberingLaws.{number_some, give_nothing, give_next, give_then}

@@ -1,7 +1,7 @@
 -- Renumbering what has new numbers: an instruction and a set are as they were. Assumes nothing.
-use Rattle.std.specs.Prelude.{◌≡◌, refl, Bool, cond, ◌&&◌, ℕ, ◌^◌, ◌<◌, get_or, length}
+use Rattle.std.specs.Prelude.{◌≡◌, refl, Bool, cond, ◌&&◌, ℕ, ◌^◌, ◌<◌, get_or, length, List, map}
 use Rattle.std.proofs.Common.{sym, ap, ap₂, ◌∙◌, zero-add, arith, lt-ltb, le-ltb}
-use mathlib.Core.List.{List, map, Memᴰ}
+use mathlib.Core.List.{Memᴰ}
 use Rattle.base.specs.Lists.{tab}
 use Rattle.base.specs.ListLaws.{by_test, in_map, get_d_tab, length_tab}
 use Rattle.base.specs.JoinLaws.{by_lt}

@@ -1,9 +1,8 @@
 -- Checks 4 to 8 accept code under the new numbers as they accepted it before. Assumes nothing.
-use Rattle.std.specs.Prelude.{◌≡◌, refl, Bool, true, false, cond, not, ◌||◌, ◌&&◌, ℕ, ◌-◌, ◌≤◌, ◌<◌, eqb, length}
+use Rattle.std.specs.Prelude.{◌≡◌, refl, Bool, true, false, cond, not, ◌||◌, ◌&&◌, ℕ, ◌-◌, ◌≤◌, ◌<◌, eqb, length, List, [], ◌∷◌, ◌++◌, map, ltb}
 use Rattle.std.proofs.Common.{sym, ap, ◌∙◌, subst, ⊎_elim, arith, lt-ltb, ltb-true}
 use mathlib.Core.List.Memᴰ
-use mathlib.Core.List.{List, [], ◌∷◌, ◌++◌, map, Memᴰ}
-use Rattle.std.proofs.Math.Dec.{ltb}
+use mathlib.Core.List.{Memᴰ}
 use Rattle.std.proofs.lemmas.List.{length-map}
 use Rattle.base.specs.Sizes.{max_locals}
 use Rattle.base.specs.Lists.{all}

@@ -1,11 +1,7 @@
 -- What an instruction under the new numbers does to a set under them: what the instruction did to the old one. Assumes nothing.
-use Rattle.std.specs.Prelude.{◌≡◌, Bool, true, false, ◌||◌, ℕ, ◌^◌, ◌≤◌}
-use Rattle.std.proofs.Math.Path.{refl, sym, ap, ap₂}
-use Rattle.std.proofs.Common.{◌∙◌, inl, inr, arith, eqb-true, get_or-take}
-use Rattle.std.proofs.Math.Bool.{cond}
-use mathlib.Core.List.{List, Memᴰ}
-use Rattle.std.proofs.Math.Dec.{eqb}
-use Rattle.std.proofs.Math.ListN.{get_or}
+use Rattle.std.specs.Prelude.{◌≡◌, Bool, true, false, ◌||◌, ℕ, ◌^◌, ◌≤◌, refl, cond, List, eqb, get_or}
+use Rattle.std.proofs.Common.{sym, ap, ap₂, ◌∙◌, inl, inr, arith, eqb-true, get_or-take}
+use mathlib.Core.List.{Memᴰ}
 use Rattle.base.specs.Lists.{Distinct}
 use Rattle.dataflow_domains.specs.Mask.{holds, union, minus, set_of}
 use Rattle.stackless_bytecode.specs.declared.Bytecode.{Bytecode}

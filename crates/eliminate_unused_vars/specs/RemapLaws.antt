@@ -1,14 +1,10 @@
 -- An instruction under the new numbers: where it goes, its lists, what it mentions; and the code of an accepted sheet. Assumes nothing.
-use Rattle.std.specs.Prelude.{◌≡◌, refl, ◌⊎◌, Bool, true, ℕ, ◌+◌, ◌-◌, ◌≤◌, ◌<◌, drop}
-use Rattle.std.proofs.Math.Path.{sym, ap, ap₂}
-use Rattle.std.proofs.Common.{◌∙◌, subst, ⊎_elim, take_at, drop_at, get_or-take, get_or-drop, ext_get_or}
-use Rattle.std.proofs.Math.Bool.{cond}
+use Rattle.std.specs.Prelude.{◌≡◌, refl, ◌⊎◌, Bool, true, ℕ, ◌+◌, ◌-◌, ◌≤◌, ◌<◌, drop, cond, List, [], ◌∷◌, ◌++◌, map, take, length, replicate}
+use Rattle.std.proofs.Common.{sym, ap, ap₂, ◌∙◌, subst, ⊎_elim, take_at, drop_at, get_or-take, get_or-drop, ext_get_or, arith, length-take, length-drop, length-take-le}
 use mathlib.Core.List.Memᴰ
-use mathlib.Core.List.{List, [], ◌∷◌, ◌++◌, map, Memᴰ}
-use native.Mathlib.Omega.{arith}
-use Rattle.std.proofs.Math.ListN.{take, length, length-map, length-take, length-drop, replicate}
-use Rattle.std.proofs.lemmas.List.{length-replicate}
-use Rattle.std.proofs.Math.Seq.{take-append-add, length-take-le}
+use mathlib.Core.List.{Memᴰ}
+use Rattle.std.proofs.lemmas.List.{length-map, length-replicate}
+use Rattle.std.proofs.Math.Seq.{take-append-add}
 use Rattle.base.specs.Sizes.{list_places, record_bytes}
 use Rattle.base.specs.Lists.{zeros}
 use Rattle.base.specs.Refusals.{Accepted}

@@ -1,8 +1,7 @@
 -- The live sets of a renumbered sheet are the old ones under the new numbers, no local of theirs is lost, and as many blocks are taken. Assumes nothing.
-use Rattle.std.specs.Prelude.{◌≡◌, refl, true, ℕ, ◌+◌, get_or, length}
-use Rattle.std.proofs.Common.{sym, ap, ap₂, ◌∙◌, add_comm, arith}
-use Rattle.std.proofs.Math.Path.{subst}
-use mathlib.Core.List.{List, map, Memᴰ}
+use Rattle.std.specs.Prelude.{◌≡◌, refl, true, ℕ, ◌+◌, get_or, length, List, map}
+use Rattle.std.proofs.Common.{sym, ap, ap₂, ◌∙◌, add_comm, arith, subst}
+use mathlib.Core.List.{Memᴰ}
 use Rattle.base.specs.Refusals.{Accepted}
 use Rattle.base.specs.Sizes.{taken_bound}
 use Rattle.dataflow_domains.specs.Mask.{holds}

@@ -1,10 +1,8 @@
 -- The run of live over code under the new numbers is the run over the old code, with its sets under them. Assumes nothing.
-use Rattle.std.specs.Prelude.{◌≡◌, get_or, length}
-use Rattle.std.proofs.Math.Path.{refl, sym, ap, ap₂, subst}
-use Rattle.std.proofs.Common.{◌∙◌, zero-add, arith}
-use mathlib.Core.List.{List, [], ◌∷◌, map, Memᴰ}
-use Prim.Native.Nat.{ℕ, zero, suc, ◌+◌, ◌-◌, ◌<◌}
-use Rattle.std.proofs.Math.ListN.{take, drop, get_or-eq_default}
+use Rattle.std.specs.Prelude.{◌≡◌, get_or, length, refl, List, [], ◌∷◌, map, ℕ, zero, suc, ◌+◌, ◌-◌, ◌<◌, take, drop}
+use Rattle.std.proofs.Common.{sym, ap, ap₂, subst, ◌∙◌, zero-add, arith}
+use mathlib.Core.List.{Memᴰ}
+use Rattle.std.proofs.Math.ListN.{get_or-eq_default}
 use Rattle.std.proofs.lemmas.List.{length-map}
 use Rattle.base.specs.Lists.{tab, Distinct}
 use Rattle.base.specs.ListLaws.{in_take, in_drop, get_d_in, get_d_tab, length_tab}

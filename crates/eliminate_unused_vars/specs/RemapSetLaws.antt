@@ -1,8 +1,7 @@
 -- Sets under the new numbers: which numbers are in one, and that sets of locals that stay are told apart. Assumes nothing.
-use Rattle.std.specs.Prelude.{◌≡◌, refl, Bool, true, false, not, ◌||◌, ◌&&◌, ℕ, ◌^◌, ◌<◌, eqb, ltb, get_or, length}
-use Rattle.std.proofs.Common.{sym, ap, ◌∙◌, subst, ⊎_elim, true≢false, arith, ltb-true, lt-ltb, eqb-true, eq-eqb, ne_eqb}
-use Rattle.std.proofs.Math.Path.{ap₂}
-use mathlib.Core.List.{List, [], ◌∷◌, map, Memᴰ}
+use Rattle.std.specs.Prelude.{◌≡◌, refl, Bool, true, false, not, ◌||◌, ◌&&◌, ℕ, ◌^◌, ◌<◌, eqb, ltb, get_or, length, List, [], ◌∷◌, map}
+use Rattle.std.proofs.Common.{sym, ap, ◌∙◌, subst, ⊎_elim, true≢false, arith, ltb-true, lt-ltb, eqb-true, eq-eqb, ne_eqb, ap₂}
+use mathlib.Core.List.{Memᴰ}
 use Rattle.base.specs.Lists.{keep, has, Distinct}
 use Rattle.base.specs.ListLaws.{or-true, and-true, by_test, by_eq, has_in, find_in, in_keep}
 use Rattle.dataflow_domains.specs.Mask.{holds, union, minus, set_of}

@@ -1,6 +1,6 @@
 -- What a renumbered sheet is: accepted, with no local that nothing needs, the same when renumbered again, and with the old live sets under the new numbers. Assumes nothing.
-use Rattle.std.specs.Prelude.{◌≡◌, true, ◌⊎◌, ℕ, ◌≤◌, ◌<◌, length, get_or}
-use mathlib.Core.List.{List, map, Memᴰ}
+use Rattle.std.specs.Prelude.{◌≡◌, true, ◌⊎◌, ℕ, ◌≤◌, ◌<◌, length, get_or, List, map}
+use mathlib.Core.List.{Memᴰ}
 use Rattle.base.specs.Bytes.{Bytes}
 use Rattle.base.specs.Lists.{gather}
 use Rattle.base.specs.Refusals.{Accepted, Done}

@@ -1,9 +1,7 @@
 -- The sheet with a new number of locals and a new reference mask: its heading, and that it is accepted where its code is. Assumes nothing.
-use Rattle.std.specs.Prelude.{◌≡◌, refl, List, ◌++◌, ℕ, ◌+◌, ◌-◌, ◌*◌, ◌/◌, ◌%◌, ◌^◌, ◌≤◌, ◌<◌, drop, length}
-use Rattle.std.proofs.Common.{sym, ◌∙◌, subst, lt_of_lt_of_le, length-append, length-drop, pow_mono, get_or-take, get_or-drop, get_or-append-add, ext_get_or, length-take-le}
-use Rattle.std.proofs.Math.Path.{ap, ap₂}
-use native.Mathlib.Omega.{arith}
-use Rattle.std.proofs.Math.ListN.{get_or, get_or-append}
+use Rattle.std.specs.Prelude.{◌≡◌, refl, List, ◌++◌, ℕ, ◌+◌, ◌-◌, ◌*◌, ◌/◌, ◌%◌, ◌^◌, ◌≤◌, ◌<◌, drop, length, get_or}
+use Rattle.std.proofs.Common.{sym, ◌∙◌, subst, lt_of_lt_of_le, length-append, length-drop, pow_mono, get_or-take, get_or-drop, get_or-append-add, ext_get_or, length-take-le, ap, ap₂, arith}
+use Rattle.std.proofs.Math.ListN.{get_or-append}
 use Rattle.base.specs.Sizes.{set_bytes, refs_at, block_bytes, max_locals}
 use Rattle.base.specs.Lists.{zeros}
 use Rattle.base.specs.Bytes.{Bytes, number, bytes_of, part}

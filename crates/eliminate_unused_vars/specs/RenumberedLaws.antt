@@ -1,8 +1,7 @@
 -- The new sheet is what `Renumbered` says. Assumes nothing.
-use Rattle.std.specs.Prelude.{◌≡◌, ◌⊎◌, not, ℕ, ◌≤◌, ◌<◌, length, get_or}
-use Rattle.std.proofs.Common.{sym, ap₂, ◌∙◌, subst, ⊎_elim, inl, inr, arith}
-use Rattle.std.proofs.Math.Path.{ap}
-use mathlib.Core.List.{List, ◌++◌, map, Memᴰ}
+use Rattle.std.specs.Prelude.{◌≡◌, ◌⊎◌, not, ℕ, ◌≤◌, ◌<◌, length, get_or, List, ◌++◌, map}
+use Rattle.std.proofs.Common.{sym, ap₂, ◌∙◌, subst, ⊎_elim, inl, inr, arith, ap}
+use mathlib.Core.List.{Memᴰ}
 use Rattle.std.proofs.Math.Option.{none}
 use Rattle.base.specs.Sizes.{set_bytes, max_locals}
 use Rattle.base.specs.Bytes.{Bytes, bytes_of}

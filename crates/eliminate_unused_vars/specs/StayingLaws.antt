@@ -1,9 +1,8 @@
 -- Which locals stay: the user locals and those that are mentioned, each once. Assumes nothing.
-use Rattle.std.specs.Prelude.{◌≡◌, ◌⊎◌, ℕ, ◌<◌, get_or, length}
-use Rattle.std.proofs.Common.{sym, ap, ◌∙◌, arith}
-use Rattle.std.proofs.Math.Logic.{⊎_elim, inl, inr}
+use Rattle.std.specs.Prelude.{◌≡◌, ◌⊎◌, ℕ, ◌<◌, get_or, length, List, [], ◌++◌}
+use Rattle.std.proofs.Common.{sym, ap, ◌∙◌, arith, ⊎_elim, inl, inr}
 use mathlib.Core.List.Memᴰ
-use mathlib.Core.List.{List, [], ◌++◌, Memᴰ}
+use mathlib.Core.List.{Memᴰ}
 use Rattle.base.specs.Lists.{tab, gather, Distinct, empty}
 use Rattle.base.specs.ListLaws.{firsts_distinct, in_firsts, firsts_in, in_tab, place_lt, get_d_place, place_get_d}
 use Rattle.stackless_bytecode.specs.declared.Bytecode.{Bytecode}

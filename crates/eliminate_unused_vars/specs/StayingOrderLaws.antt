@@ -1,9 +1,7 @@
 -- The order of the locals that stay: the user locals first, each under its own number; and what stays under the new numbers has those numbers already. Assumes nothing.
-use Rattle.std.specs.Prelude.{◌≡◌, ℕ, ◌≤◌, ◌<◌, length}
-use Rattle.std.proofs.Math.Path.{sym, ap}
-use Rattle.std.proofs.Common.{ap₂, ◌∙◌, subst, zero-add, arith, length-append, ext_get_or}
+use Rattle.std.specs.Prelude.{◌≡◌, ℕ, ◌≤◌, ◌<◌, length, List, [], ◌++◌, map}
+use Rattle.std.proofs.Common.{sym, ap, ap₂, ◌∙◌, subst, zero-add, arith, length-append, ext_get_or}
 use mathlib.Core.List.Memᴰ
-use mathlib.Core.List.{List, [], ◌++◌, map}
 use Rattle.std.proofs.lemmas.List.{length-map}
 use Rattle.base.specs.Lists.{tab, gather, place, firsts, Distinct, empty}
 use Rattle.base.specs.ListLaws.{in_has, in_tab, tab_in, length_tab, get_d_tab, firsts_distinct, firsts_in}

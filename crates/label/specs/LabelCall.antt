@@ -1,6 +1,6 @@
 -- The call label: what a label is in an accepted sheet, in one number; and what that number says. Assumes nothing.
-use Rattle.std.specs.Prelude.{◌≡◌, ℕ, ◌+◌, ◌*◌, ◌/◌, ◌%◌, ◌≤◌, ◌<◌, length}
-use mathlib.Core.List.{List, [], Memᴰ}
+use Rattle.std.specs.Prelude.{◌≡◌, ℕ, ◌+◌, ◌*◌, ◌/◌, ◌%◌, ◌≤◌, ◌<◌, length, List, []}
+use mathlib.Core.List.{Memᴰ}
 use Rattle.base.specs.Refusals.{Reply, Done, reply}
 use Rattle.stackless_bytecode.specs.declared.Bytecode.{Bytecode}
 use Rattle.stackless_bytecode.specs.declared.Lookup.{Lookup}

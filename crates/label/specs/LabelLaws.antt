@@ -1,9 +1,8 @@
 -- The search for names one instruction a turn; what the call label replies, and that it means what it is to mean. Assumes nothing.
-use Rattle.std.specs.Prelude.{◌≡◌, refl, Bool, true, false, cond, not, ◌||◌, ℕ, ◌+◌, ◌≤◌, ◌<◌, eqb, get_or, length, drop}
-use Rattle.std.proofs.Common.{sym, ◌∙◌, subst, true≢false, add-one, arith, eq-eqb, ne_eqb, drop_of_length-le, drop-cons}
-use Rattle.std.proofs.Math.Path.{ap}
+use Rattle.std.specs.Prelude.{◌≡◌, refl, Bool, true, false, cond, not, ◌||◌, ℕ, ◌+◌, ◌≤◌, ◌<◌, eqb, get_or, length, drop, List, [], ◌∷◌}
+use Rattle.std.proofs.Common.{sym, ◌∙◌, subst, true≢false, add-one, arith, eq-eqb, ne_eqb, drop_of_length-le, drop-cons, ap}
 use Rattle.std.proofs.Math.Bool.{or-false}
-use mathlib.Core.List.{List, [], ◌∷◌, Memᴰ}
+use mathlib.Core.List.{Memᴰ}
 use Rattle.std.proofs.lemmas.Bool.{not-false}
 use Rattle.base.specs.Sizes.{max_instructions}
 use Rattle.base.specs.Lists.{gather, has, first_bad}

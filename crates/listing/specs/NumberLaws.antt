@@ -1,8 +1,7 @@
 -- Numbers in text: decimal from its last digit on, and hex by the bytes of a set. Assumes nothing.
 use Rattle.std.specs.Prelude.{◌≡◌, refl, Bool, true, false, List, [], ◌∷◌, ◌++◌, ℕ, zero, suc, ◌+◌, ◌-◌, ◌*◌, ◌/◌, ◌%◌, ◌^◌, ◌≤◌, ◌<◌, ltb, length, get_or, take, drop, set}
-use Rattle.std.proofs.Common.{sym, ap, ◌∙◌, append-nil, append_assoc, pow-suc, zero-add, lt-ltb, le-ltb, length-append, length-set, take-append-drop, pow-add, take-suc, length-take-le}
+use Rattle.std.proofs.Common.{sym, ap, ◌∙◌, append-nil, append_assoc, pow-suc, zero-add, lt-ltb, le-ltb, length-append, length-set, take-append-drop, pow-add, take-suc, length-take-le, arith}
 use Rattle.std.proofs.Math.Nat.{zero-div, div-div-eq-div-mul}
-use native.Mathlib.Omega.{arith}
 use Rattle.std.proofs.lemmas.List.{set_at}
 use Rattle.base.specs.Sizes.{set_bytes}
 use Rattle.base.specs.Bytes.{number, Bytes}

@@ -1,13 +1,9 @@
 -- The live sets obey the paper's rules, no sets that obey them have less, and no more blocks are taken than the bound. Assumes nothing.
-use Rattle.std.specs.Prelude.{◌≡◌, false, get_or, take, drop}
-use Rattle.std.proofs.Math.Path.{refl, sym, ap, ap₂, subst}
-use Rattle.std.proofs.Common.{◌∙◌, add-mul, mul-add, mul-one, one-mul}
+use Rattle.std.specs.Prelude.{◌≡◌, false, get_or, take, drop, refl, List, [], map, ℕ, zero, suc, ◌+◌, ◌-◌, ◌*◌, ◌^◌, ◌≤◌, ◌<◌, length}
+use Rattle.std.proofs.Common.{sym, ap, ap₂, subst, ◌∙◌, add-mul, mul-add, mul-one, one-mul, zero-add, arith}
 use mathlib.Core.List.Memᴰ
-use mathlib.Core.List.{List, [], map, Memᴰ}
-use Prim.Native.Nat.{ℕ, zero, suc, ◌+◌, ◌-◌, ◌*◌, ◌^◌, ◌≤◌, ◌<◌}
-use Rattle.std.proofs.Math.Nat.{zero-add}
-use native.Mathlib.Omega.{arith}
-use Rattle.std.proofs.Math.ListN.{length, length-map}
+use mathlib.Core.List.{Memᴰ}
+use Rattle.std.proofs.lemmas.List.{length-map}
 use Rattle.dataflow_domains.specs.Mask.{bit, unions, Sub}
 use Rattle.dataflow_domains.specs.MaskLaws.{sub_eq, sub_trans, sub_antisymm, sub_empty, bit_empty, unions_in, unions_least, unions_one, sub_by, sub_at}
 use Rattle.dataflow_analysis.specs.Worklist.{State, set_at, Met, begin, run}

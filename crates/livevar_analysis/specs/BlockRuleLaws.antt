@@ -1,12 +1,9 @@
 -- What the rules of the rest of a block make of a set, which keys are predecessors, and that sets which obey have at least what the rules give. Assumes nothing.
-use Rattle.std.specs.Prelude.{◌≡◌, refl, false, cond, eqb, get_or, length, drop}
-use Rattle.std.proofs.Common.{sym, inl, inr, ⊎_elim, not-suc-le-zero, le_of_suc-le-suc, zero-lt-suc, arith, eqb-true, drop-cons}
-use Rattle.std.proofs.Math.Path.{ap, ap₂}
+use Rattle.std.specs.Prelude.{◌≡◌, refl, false, cond, eqb, get_or, length, drop, List, [], ◌∷◌, map, ℕ, zero, suc, ◌+◌, ◌-◌, ◌^◌, ◌<◌, take}
+use Rattle.std.proofs.Common.{sym, inl, inr, ⊎_elim, not-suc-le-zero, le_of_suc-le-suc, zero-lt-suc, arith, eqb-true, drop-cons, ap, ap₂, suc-le-suc}
 use mathlib.Core.List.Memᴰ
-use mathlib.Core.List.{List, [], ◌∷◌, map, Memᴰ}
-use Prim.Native.Nat.{ℕ, zero, suc, ◌+◌, ◌-◌, ◌^◌, ◌<◌, suc-le-suc}
+use mathlib.Core.List.{Memᴰ}
 use Rattle.std.proofs.lemmas.Bool.{eqb-false}
-use Rattle.std.proofs.Math.ListN.{take}
 use Rattle.dataflow_domains.specs.Mask.{Sub}
 use Rattle.dataflow_domains.specs.MaskLaws.{sub_eq, sub_trans, unions_in}
 use Rattle.livevar_analysis.specs.Live.{Obeys, Post, execute}

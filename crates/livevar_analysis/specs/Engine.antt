@@ -1,6 +1,6 @@
 -- What the engine asks of the slices that it is lent, and what it leaves in them. Assumes nothing.
-use Rattle.std.specs.Prelude.{◌≡◌, true, ℕ, ◌+◌, ◌-◌, ◌*◌, ◌≤◌, ◌<◌, get_or, length, take}
-use mathlib.Core.List.{List, Memᴰ}
+use Rattle.std.specs.Prelude.{◌≡◌, true, ℕ, ◌+◌, ◌-◌, ◌*◌, ◌≤◌, ◌<◌, get_or, length, take, List}
+use mathlib.Core.List.{Memᴰ}
 use Rattle.base.specs.Sizes.{set_words, max_locals, max_instructions, max_number, max_taken}
 use Rattle.base.specs.Lists.{over}
 use Rattle.dataflow_domains.specs.Sets.{stored_set, sets_of}

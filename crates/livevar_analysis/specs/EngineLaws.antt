@@ -1,7 +1,6 @@
 -- What the engine's loops are to the definitions: a rule, the rules of a block, handing on, and one key. Assumes nothing.
-use Rattle.std.specs.Prelude.{◌≡◌, ◌⊎◌, Bool, true, false, cond, not, ◌&&◌, List, [], ◌∷◌, ◌++◌, map, ℕ, zero, suc, ◌+◌, ◌-◌, ◌*◌, ◌≤◌, ◌<◌, eqb, get_or, length, take, drop}
-use Rattle.std.proofs.Math.Path.{refl, sym}
-use Rattle.std.proofs.Common.{ap, ap₂, ◌∙◌, subst, inl, inr, add-one, arith, length-drop, take-suc, take_all, get_or-drop}
+use Rattle.std.specs.Prelude.{◌≡◌, ◌⊎◌, Bool, true, false, cond, not, ◌&&◌, List, [], ◌∷◌, ◌++◌, map, ℕ, zero, suc, ◌+◌, ◌-◌, ◌*◌, ◌≤◌, ◌<◌, eqb, get_or, length, take, drop, refl}
+use Rattle.std.proofs.Common.{sym, ap, ap₂, ◌∙◌, subst, inl, inr, add-one, arith, length-drop, take-suc, take_all, get_or-drop}
 use Rattle.std.proofs.lemmas.List.{length-map}
 use Rattle.base.specs.Sizes.{set_words, max_number}
 use Rattle.base.specs.Lists.{over, tab}

@@ -1,6 +1,6 @@
 -- The live rules: what each kind of instruction does to the set of live locals behind it, and what it means for sets to obey. Assumes nothing.
-use Rattle.std.specs.Prelude.{◌≡◌, cond, ◌||◌, ℕ, ◌^◌, ◌<◌, eqb, get_or, length}
-use mathlib.Core.List.{List, map, Memᴰ}
+use Rattle.std.specs.Prelude.{◌≡◌, cond, ◌||◌, ℕ, ◌^◌, ◌<◌, eqb, get_or, length, List, map}
+use mathlib.Core.List.{Memᴰ}
 use Rattle.dataflow_domains.specs.Mask.{holds, union, minus, set_of, unions, Sub}
 use Rattle.stackless_bytecode.specs.declared.Bytecode.{Bytecode}
 use Rattle.stackless_bytecode.specs.Kinds.{Assign, Call, Ret, Load, Branch, Abort, Prop, dsts_of, srcs_of, at}

@@ -1,9 +1,7 @@
 -- The bytes of an accepted sheet's live sets have term 3. Assumes nothing.
-use Rattle.std.specs.Prelude.{◌≡◌, refl, ℕ, ◌*◌, ◌≤◌, ◌<◌}
-use Rattle.std.proofs.Math.Path.{sym, ap}
-use Rattle.std.proofs.Common.{ap₂, ◌∙◌, subst, zero-add, arith}
-use mathlib.Core.List.{List, [], ◌∷◌, ◌++◌, map, Memᴰ}
-use Rattle.std.proofs.Math.ListN.{get_or, length, length-append}
+use Rattle.std.specs.Prelude.{◌≡◌, refl, ℕ, ◌*◌, ◌≤◌, ◌<◌, List, [], ◌∷◌, ◌++◌, map, get_or, length}
+use Rattle.std.proofs.Common.{sym, ap, ap₂, ◌∙◌, subst, zero-add, arith, length-append}
+use mathlib.Core.List.{Memᴰ}
 use Rattle.base.specs.Sizes.{set_bytes, pair_bytes}
 use Rattle.base.specs.Bytes.{part, bytes_of}
 use Rattle.dataflow_domains.specs.ByteLaws.{bytes_length}

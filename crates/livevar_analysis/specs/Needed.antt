@@ -1,6 +1,6 @@
 -- Why a local is listed: a way to a use on which nothing takes it out. Assumes nothing.
-use Rattle.std.specs.Prelude.{◌≡◌, ℕ, ◌^◌, ◌<◌, length}
-use mathlib.Core.List.{List, Memᴰ}
+use Rattle.std.specs.Prelude.{◌≡◌, ℕ, ◌^◌, ◌<◌, length, List}
+use mathlib.Core.List.{Memᴰ}
 use Rattle.dataflow_domains.specs.Mask.{bit}
 use Rattle.stackless_bytecode.specs.declared.Bytecode.{Bytecode}
 use Rattle.stackless_bytecode.specs.Kinds.{at}

@@ -1,13 +1,6 @@
 -- The sets of each instruction from the last to the first, the bytes that are written, and that they are read back. Assumes nothing.
-use Rattle.std.specs.Prelude.{◌≡◌, Bool, true, false, ◌||◌, eqb}
-use Rattle.std.proofs.Math.Path.{refl, sym, ap, ap₂}
-use Rattle.std.proofs.Common.{◌∙◌, subst, inl, inr, zero-add, lt_of_lt_of_le, add-one, eq-eqb, ne_eqb, length-append, pow_mono, ext_get_or, take_at, drop_at}
-use Rattle.std.proofs.Math.Bool.{cond, not}
-use mathlib.Core.List.{List, ◌++◌, append_assoc}
-use Prim.Native.Nat.{ℕ, suc, ◌+◌, ◌-◌, ◌*◌, ◌^◌, ◌≤◌, ◌<◌}
-use native.Mathlib.Omega.{arith}
-use Rattle.std.proofs.Math.ListN.{get_or, length, take, drop, take-append-drop}
-use Rattle.std.proofs.Math.Pow.{pow_pos}
+use Rattle.std.specs.Prelude.{◌≡◌, Bool, true, false, ◌||◌, eqb, refl, cond, not, List, ◌++◌, ℕ, suc, ◌+◌, ◌-◌, ◌*◌, ◌^◌, ◌≤◌, ◌<◌, get_or, length, take, drop}
+use Rattle.std.proofs.Common.{sym, ap, ap₂, ◌∙◌, subst, inl, inr, zero-add, lt_of_lt_of_le, add-one, eq-eqb, ne_eqb, length-append, pow_mono, ext_get_or, take_at, drop_at, append_assoc, arith, take-append-drop, pow_pos}
 use Rattle.base.specs.Sizes.{set_bytes, set_words, max_locals, pair_bytes}
 use Rattle.base.specs.Lists.{tab, gather}
 use Rattle.base.specs.Bytes.{number, part, bytes_of}

@@ -1,10 +1,6 @@
 -- The rules, the graph and the run of an accepted sheet give what the definition gives. Assumes nothing.
-use Rattle.std.specs.Prelude.{◌≡◌, get_or, replicate}
-use Rattle.std.proofs.Common.{sym, ◌∙◌, arith, mul_comm, mul-le-mul_left, mul-suc}
-use Rattle.std.proofs.Math.Path.{ap}
-use mathlib.Core.List.{List, ◌++◌}
-use Prim.Native.Nat.{ℕ, ◌+◌, ◌*◌, ◌≤◌, ◌<◌}
-use Rattle.std.proofs.Math.ListN.{length, drop}
+use Rattle.std.specs.Prelude.{◌≡◌, get_or, replicate, List, ◌++◌, ℕ, ◌+◌, ◌*◌, ◌≤◌, ◌<◌, length, drop}
+use Rattle.std.proofs.Common.{sym, ◌∙◌, arith, mul_comm, mul-le-mul_left, mul-suc, ap}
 use Rattle.std.proofs.lemmas.List.{length-replicate}
 use Rattle.base.specs.Sizes.{set_words, max_instructions, pair_bytes}
 use Rattle.base.specs.ListLaws.{copies_at, place_lt}

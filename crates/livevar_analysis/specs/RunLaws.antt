@@ -1,11 +1,9 @@
 -- The main loop of the engine is the definition's run: its invariant, a turn, and its end. Assumes nothing.
-use Rattle.std.specs.Prelude.{◌≡◌, refl, Bool, true, cond, ℕ, zero, suc, ◌+◌, ◌-◌, ◌*◌, ◌^◌, ◌≤◌, ◌<◌, get_or, set, take, drop, replicate}
-use Rattle.std.proofs.Common.{sym, ◌∙◌, mul-le-mul, add-one, length-set, length-take, ext_get_or, get_or-take}
-use Rattle.std.proofs.Math.Path.{ap, ap₂, subst}
-use mathlib.Core.List.{List, [], ◌∷◌, ◌++◌, Memᴰ}
-use native.Mathlib.Omega.{arith}
+use Rattle.std.specs.Prelude.{◌≡◌, refl, Bool, true, cond, ℕ, zero, suc, ◌+◌, ◌-◌, ◌*◌, ◌^◌, ◌≤◌, ◌<◌, get_or, set, take, drop, replicate, List, [], ◌∷◌, ◌++◌, length}
+use Rattle.std.proofs.Common.{sym, ◌∙◌, mul-le-mul, add-one, length-set, length-take, ext_get_or, get_or-take, ap, ap₂, subst, arith}
+use mathlib.Core.List.{Memᴰ}
 use Rattle.std.specs.Int.Count.{ones, ones-ones}
-use Rattle.std.proofs.Math.ListN.{length, get_or-eq_default}
+use Rattle.std.proofs.Math.ListN.{get_or-eq_default}
 use Rattle.std.proofs.lemmas.List.{length-replicate}
 use Rattle.std.proofs.Math.Pow.{ones_lt}
 use Rattle.base.specs.Sizes.{set_words, max_locals, max_instructions, taken_bound, max_taken}

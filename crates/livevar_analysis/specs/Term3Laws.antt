@@ -1,7 +1,7 @@
 -- Every sheet that the checks accept has term 3. Assumes nothing.
-use Rattle.std.specs.Prelude.{◌≡◌, ℕ, ◌<◌, ◌^◌, get_or, length}
+use Rattle.std.specs.Prelude.{◌≡◌, ℕ, ◌<◌, ◌^◌, get_or, length, List}
 use Rattle.std.proofs.Common.{ap, arith}
-use mathlib.Core.List.{List, Memᴰ}
+use mathlib.Core.List.{Memᴰ}
 use Rattle.dataflow_domains.specs.Mask.{Sub}
 use Rattle.dataflow_domains.specs.MaskLaws.{sub_antisymm}
 use Rattle.stackless_bytecode.specs.declared.Bytecode.{Bytecode}

@@ -1,9 +1,7 @@
 -- What edges lose, by what is read; and the pass that fills the plan. Assumes nothing.
-use Rattle.std.specs.Prelude.{◌≡◌, refl, Bool, cond, ℕ, zero, suc, ◌+◌, ◌*◌, ◌/◌, ◌%◌, ◌≤◌, ◌<◌, eqb, get_or, length, set}
-use Rattle.std.proofs.Math.Path.{sym, ap, ap₂}
-use Rattle.std.proofs.Common.{◌∙◌, subst, mod-lt, arith, eq-eqb, ne_eqb, get_or-set_same, get_or-set_other}
-use Rattle.std.proofs.Math.Bool.{true, false}
-use mathlib.Core.List.{List, [], ◌∷◌, Memᴰ}
+use Rattle.std.specs.Prelude.{◌≡◌, refl, Bool, cond, ℕ, zero, suc, ◌+◌, ◌*◌, ◌/◌, ◌%◌, ◌≤◌, ◌<◌, eqb, get_or, length, set, true, false, List, [], ◌∷◌}
+use Rattle.std.proofs.Common.{sym, ap, ap₂, ◌∙◌, subst, mod-lt, arith, eq-eqb, ne_eqb, get_or-set_same, get_or-set_other}
+use mathlib.Core.List.{Memᴰ}
 use Rattle.std.specs.Int.Bits.{bit_and}
 use Rattle.base.specs.Sizes.{max_locals, set_words}
 use Rattle.base.specs.Lists.{count}

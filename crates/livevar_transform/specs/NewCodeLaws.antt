@@ -1,12 +1,7 @@
 -- The new code, record behind record: what is written so far, the block of an edge, the kept instructions and all blocks. Assumes nothing.
-use Rattle.std.specs.Prelude.{◌≡◌, Bool, ℕ, suc, ◌+◌, ◌-◌, ◌*◌, ◌/◌, ◌%◌, ◌^◌, ◌≤◌, ◌<◌, eqb, get_or}
-use Rattle.std.proofs.Math.Path.{refl, sym, ap, ap₂}
-use Rattle.std.proofs.Common.{◌∙◌, subst, add-one, eq-eqb, ne_eqb, lt-ltb, length-drop, take-suc, take_all, length-take-le}
-use Rattle.std.proofs.Math.Bool.{cond}
-use mathlib.Core.List.{List, [], ◌∷◌, ◌++◌}
-use native.Mathlib.Omega.{arith}
+use Rattle.std.specs.Prelude.{◌≡◌, Bool, ℕ, suc, ◌+◌, ◌-◌, ◌*◌, ◌/◌, ◌%◌, ◌^◌, ◌≤◌, ◌<◌, eqb, get_or, refl, cond, List, [], ◌∷◌, ◌++◌, length, take, drop}
+use Rattle.std.proofs.Common.{sym, ap, ap₂, ◌∙◌, subst, add-one, eq-eqb, ne_eqb, lt-ltb, length-drop, take-suc, take_all, length-take-le, arith, length-append}
 use Rattle.std.specs.Int.Count.{ones}
-use Rattle.std.proofs.Math.ListN.{length, take, drop, length-append}
 use Rattle.base.specs.Sizes.{max_locals, record_bytes}
 use Rattle.base.specs.Lists.{joins}
 use Rattle.base.specs.WriteLaws.{drop_front}

@@ -1,13 +1,7 @@
 -- The numbers that come next, by the table of what edges lose: bounds, what the blocks use up, and when they fit. Assumes nothing.
-use Rattle.std.specs.Prelude.{◌≡◌, Bool, true, not, ◌&&◌, eqb, leb, ltb, get_or}
-use Rattle.std.proofs.Math.Path.{refl, sym, ap}
-use Rattle.std.proofs.Common.{ap₂, ◌∙◌, subst, ⊎_elim, add-zero, add-one, eqb-true, leb-true, lt-ltb, eq-eqb, ne_eqb}
-use Rattle.std.proofs.Math.Bool.{cond}
-use mathlib.Core.List.{List, [], ◌∷◌}
-use Prim.Native.Nat.{ℕ, zero, suc, ◌+◌, ◌-◌, ◌*◌, ◌^◌, ◌≤◌, ◌<◌}
-use native.Mathlib.Omega.{arith}
+use Rattle.std.specs.Prelude.{◌≡◌, Bool, true, not, ◌&&◌, eqb, leb, ltb, get_or, refl, cond, List, [], ◌∷◌, ℕ, zero, suc, ◌+◌, ◌-◌, ◌*◌, ◌^◌, ◌≤◌, ◌<◌, length}
+use Rattle.std.proofs.Common.{sym, ap, ap₂, ◌∙◌, subst, ⊎_elim, add-zero, add-one, eqb-true, leb-true, lt-ltb, eq-eqb, ne_eqb, arith, length-append}
 use Rattle.std.specs.Int.Count.{ones}
-use Rattle.std.proofs.Math.ListN.{length, length-append}
 use Rattle.base.specs.Sizes.{record_bytes, max_locals, max_number, max_instructions}
 use Rattle.base.specs.Lists.{keep, count, joins}
 use Rattle.base.specs.ListLaws.{by_test, by_eq, or-true, and-true}

@@ -1,16 +1,10 @@
 -- Where everything stands in the rewritten code: kept instructions and new blocks; what stands for an offset, and what an edge loses. Assumes nothing.
-use Rattle.std.specs.Prelude.{◌≡◌, ◌≢◌, Bool}
-use Rattle.std.proofs.Math.Path.{refl, sym, ap, ap₂, subst}
-use Rattle.std.proofs.Common.{◌∙◌, not-suc-le-zero}
-use Rattle.std.proofs.Math.Bool.{true, false, cond, not}
-use mathlib.Core.List.{List, [], ◌∷◌, ◌++◌, Memᴰ}
-use Prim.Native.Nat.{ℕ, suc, ◌+◌, ◌-◌, ◌*◌, ◌/◌, ◌%◌, ◌<◌}
-use native.Mathlib.Omega.{arith}
-use borrow.Author.Tests.{eqb-true, eqb-false, eq-eqb, ltb-true, lt-ltb}
+use Rattle.std.specs.Prelude.{◌≡◌, ◌≢◌, Bool, refl, true, false, cond, not, List, [], ◌∷◌, ◌++◌, ℕ, suc, ◌+◌, ◌-◌, ◌*◌, ◌/◌, ◌%◌, ◌<◌, eqb, get_or, length}
+use Rattle.std.proofs.Common.{sym, ap, ap₂, subst, ◌∙◌, not-suc-le-zero, arith, eqb-true, eq-eqb, ltb-true, lt-ltb, length-append, get_or-append-add}
+use mathlib.Core.List.{Memᴰ}
+use Rattle.std.proofs.lemmas.Bool.{eqb-false}
 use Rattle.std.specs.Int.Bits.{bit_and}
-use Rattle.std.proofs.Math.Dec.{eqb}
-use Rattle.std.proofs.Math.ListN.{get_or, length, length-append, get_or-append}
-use Rattle.std.proofs.Math.Seq.{get_or-append-add}
+use Rattle.std.proofs.Math.ListN.{get_or-append}
 use Rattle.dataflow_domains.specs.Mask.{bit, holds, minus}
 use Rattle.dataflow_domains.specs.MaskLaws.{bit_lt, bit_and_lem, bit_minus}
 use Rattle.dataflow_domains.specs.HoldsLaws.{holds_true}

@@ -1,10 +1,6 @@
 -- What becomes of an offset: the sets that are read, what is dropped and what is merged. Assumes nothing.
-use Rattle.std.specs.Prelude.{◌≡◌, ◌⊎◌, Bool, true, false, ◌&&◌, List, [], ◌∷◌, get_or, length, take, drop}
-use Rattle.std.proofs.Math.Path.{refl, sym, ap, ap₂}
-use Rattle.std.proofs.Common.{◌∙◌, subst, inl, inr, ⊎_elim, zero-add, suc-add, add-one, arith, eq-eqb, ne_eqb, take-take, drop-drop}
-use Rattle.std.proofs.Math.Bool.{cond, not, ◌||◌}
-use Prim.Native.Nat.{ℕ, zero, suc, ◌+◌, ◌*◌, ◌≤◌, ◌<◌}
-use Rattle.std.proofs.Math.Dec.{eqb}
+use Rattle.std.specs.Prelude.{◌≡◌, ◌⊎◌, Bool, true, false, ◌&&◌, List, [], ◌∷◌, get_or, length, take, drop, refl, cond, not, ◌||◌, ℕ, zero, suc, ◌+◌, ◌*◌, ◌≤◌, ◌<◌, eqb}
+use Rattle.std.proofs.Common.{sym, ap, ap₂, ◌∙◌, subst, inl, inr, ⊎_elim, zero-add, suc-add, add-one, arith, eq-eqb, ne_eqb, take-take, drop-drop}
 use Rattle.std.proofs.Math.Seq.{take-nil}
 use Rattle.base.specs.Sizes.{set_bytes, pair_bytes, max_locals, max_instructions, record_bytes, block_bytes}
 use Rattle.base.specs.Lists.{count}

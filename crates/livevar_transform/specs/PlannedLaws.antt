@@ -1,12 +1,6 @@
 -- The code that a plan says is the new code. Assumes nothing.
-use Rattle.std.specs.Prelude.{◌≡◌, Bool, ◌||◌, ◌&&◌, ℕ, zero, suc, ◌+◌, ◌*◌, ◌≤◌, ◌<◌, ltb}
-use Rattle.std.proofs.Math.Path.{refl, sym, ap, ap₂}
-use Rattle.std.proofs.Common.{◌∙◌, add-zero, add-one, eq-eqb, ne_eqb}
-use Rattle.std.proofs.Math.Bool.{cond}
-use mathlib.Core.List.{List, [], ◌∷◌, ◌++◌}
-use native.Mathlib.Omega.{arith}
-use Rattle.std.proofs.Math.Dec.{eqb, leb}
-use Rattle.std.proofs.Math.ListN.{length}
+use Rattle.std.specs.Prelude.{◌≡◌, Bool, ◌||◌, ◌&&◌, ℕ, zero, suc, ◌+◌, ◌*◌, ◌≤◌, ◌<◌, ltb, refl, cond, List, [], ◌∷◌, ◌++◌, eqb, leb, length}
+use Rattle.std.proofs.Common.{sym, ap, ap₂, ◌∙◌, add-zero, add-one, eq-eqb, ne_eqb, arith}
 use Rattle.base.specs.Sizes.{max_number}
 use Rattle.base.specs.Lists.{count, total, joins}
 use Rattle.base.specs.ListLaws.{by_test, by_eq}

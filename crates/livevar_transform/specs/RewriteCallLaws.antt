@@ -1,9 +1,6 @@
 -- What the call rewrite replies: refused by the checks, too short, or what the worker answers. Assumes nothing.
-use Rattle.std.specs.Prelude.{◌≡◌, refl, Bool, true, false, List, ◌++◌, ℕ, ◌*◌, ◌≤◌, ◌<◌, leb, length}
-use Rattle.std.proofs.Common.{sym, ap₂, ◌∙◌, arith}
-use Rattle.std.proofs.Math.Path.{ap, subst}
-use Rattle.std.proofs.Math.ListN.{take, drop}
-use Rattle.std.proofs.Math.Seq.{take_at}
+use Rattle.std.specs.Prelude.{◌≡◌, refl, Bool, true, false, List, ◌++◌, ℕ, ◌*◌, ◌≤◌, ◌<◌, leb, length, take, drop}
+use Rattle.std.proofs.Common.{sym, ap₂, ◌∙◌, arith, ap, subst, take_at}
 use Rattle.base.specs.Sizes.{pair_bytes, max_bytes, max_instructions}
 use Rattle.base.specs.Refusals.{Accepted, Refused, Reply, No, Done, Result, result_of, answer_of, output_after}
 use Rattle.base.specs.RefusalLaws.{accepted_whole, refused_whole, lends_short, lends_enough}

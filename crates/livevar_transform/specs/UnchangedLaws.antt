@@ -1,11 +1,6 @@
 -- A sheet of which nothing is dropped or merged, and whose edges lose nothing, is its own rewriting: the proof. Assumes nothing.
-use Rattle.std.specs.Prelude.{◌≡◌, Bool, true, ◌||◌, ◌&&◌, ℕ, zero, suc, ◌*◌, ◌≤◌, ◌<◌, take}
-use Rattle.std.proofs.Math.Path.{refl, ap, ap₂}
-use Rattle.std.proofs.Common.{sym, ◌∙◌, true≢false, arith, le-leb, ltb-false, take-suc}
-use Rattle.std.proofs.Math.Bool.{cond}
-use mathlib.Core.List.{List, [], ◌∷◌, append-nil, ◌++◌}
-use Rattle.std.proofs.Math.Dec.{eqb, leb}
-use Rattle.std.proofs.Math.ListN.{length}
+use Rattle.std.specs.Prelude.{◌≡◌, Bool, true, ◌||◌, ◌&&◌, ℕ, zero, suc, ◌*◌, ◌≤◌, ◌<◌, take, refl, cond, List, [], ◌∷◌, ◌++◌, eqb, leb, length}
+use Rattle.std.proofs.Common.{ap, ap₂, sym, ◌∙◌, true≢false, arith, le-leb, ltb-false, take-suc, append-nil}
 use Rattle.std.proofs.Math.Seq.{take-length}
 use Rattle.base.specs.Sizes.{max_number, max_instructions, max_bytes}
 use Rattle.base.specs.Lists.{joins}

@@ -1,11 +1,8 @@
 -- No line of a sheet's code is longer than is counted. Assumes nothing.
-use Rattle.std.specs.Prelude.{◌≡◌, refl, Bool, true, false, cond, ◌||◌, ◌&&◌, ℕ, zero, suc, ◌+◌, ◌-◌, ◌*◌, ◌/◌, ◌≤◌, ◌<◌, ltb, take}
+use Rattle.std.specs.Prelude.{◌≡◌, refl, Bool, true, false, cond, ◌||◌, ◌&&◌, ℕ, zero, suc, ◌+◌, ◌-◌, ◌*◌, ◌/◌, ◌≤◌, ◌<◌, ltb, take, List, [], ◌∷◌, ◌++◌, eqb, length}
+use Rattle.std.proofs.Common.{arith, ltb-true, length-append, length-take}
 use mathlib.Core.List.Memᴰ
-use mathlib.Core.List.{List, [], ◌∷◌, ◌++◌, Memᴰ}
-use native.Mathlib.Omega.{arith}
-use Rattle.std.proofs.Common.{ltb-true}
-use Rattle.std.proofs.Math.Dec.{eqb}
-use Rattle.std.proofs.Math.ListN.{length, length-append, length-take}
+use mathlib.Core.List.{Memᴰ}
 use Rattle.base.specs.Sizes.{list_places, max_locals, max_number, max_instructions}
 use Rattle.base.specs.Lists.{joins, keep, gather}
 use Rattle.base.specs.ListLaws.{by_test, and-true}

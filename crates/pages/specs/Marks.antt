@@ -1,6 +1,6 @@
 -- Marks at the Labels that are named, made slot by slot, and the texts of those that have none. Assumes nothing.
-use Rattle.std.specs.Prelude.{◌≡◌, ℕ, ◌<◌, Bool, cond, not, ◌&&◌, eqb, get_or, set, length, take}
-use mathlib.Core.List.{List, [], Memᴰ}
+use Rattle.std.specs.Prelude.{◌≡◌, ℕ, ◌<◌, Bool, cond, not, ◌&&◌, eqb, get_or, set, length, take, List, []}
+use mathlib.Core.List.{Memᴰ}
 use Rattle.base.specs.Lists.{gather}
 use Rattle.stackless_bytecode.specs.declared.Bytecode.{Bytecode}
 use Rattle.stackless_bytecode.specs.declared.Lookup.TheVariants.{Named}

@@ -1,11 +1,9 @@
 -- No page is longer than is counted. Assumes nothing.
-use Rattle.std.specs.Prelude.{◌≡◌, cond, ℕ, suc, ◌+◌, ◌*◌, ◌≤◌, ◌<◌, eqb, length, get_or, drop}
-use Rattle.std.proofs.Math.Path.{refl}
-use Rattle.std.proofs.Common.{ap}
+use Rattle.std.specs.Prelude.{◌≡◌, cond, ℕ, suc, ◌+◌, ◌*◌, ◌≤◌, ◌<◌, eqb, length, get_or, drop, refl, List, [], ◌∷◌, ◌++◌, map}
+use Rattle.std.proofs.Common.{ap, arith, length-append}
 use mathlib.Core.List.Memᴰ
-use mathlib.Core.List.{List, [], ◌∷◌, ◌++◌, map, Memᴰ}
-use native.Mathlib.Omega.{arith}
-use Rattle.std.proofs.Math.ListN.{length-append, get_or-eq_default}
+use mathlib.Core.List.{Memᴰ}
+use Rattle.std.proofs.Math.ListN.{get_or-eq_default}
 use Rattle.base.specs.Sizes.{row_numbers, max_number, max_instructions, max_bytes}
 use Rattle.base.specs.Lists.{joins, gather, place}
 use Rattle.base.specs.ListLaws.{by_test, get_d_in, in_take, in_drop, in_map, in_gather, in_get_d}

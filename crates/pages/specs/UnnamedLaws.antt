@@ -1,9 +1,7 @@
 -- The Labels that nobody names: the marks slot by slot, and the line as the code writes it. Assumes nothing.
-use Rattle.std.specs.Prelude.{◌≡◌, refl, Bool, true, false, cond, not, ◌&&◌, ℕ, ◌+◌, ◌*◌, ◌/◌, ◌%◌, ◌≤◌, ◌<◌, eqb, get_or, set, take, drop}
-use Rattle.std.proofs.Math.Path.{sym, ap}
-use Rattle.std.proofs.Common.{ap₂, ◌∙◌, subst, true≢false, ⊎_elim, arith, eq-eqb, ne_eqb, length-append, take-append-drop, get_or-set_same, get_or-set_other, take_all}
-use mathlib.Core.List.{List, [], ◌∷◌, ◌++◌, append-nil, Memᴰ}
-use Rattle.std.proofs.Math.ListN.{length}
+use Rattle.std.specs.Prelude.{◌≡◌, refl, Bool, true, false, cond, not, ◌&&◌, ℕ, ◌+◌, ◌*◌, ◌/◌, ◌%◌, ◌≤◌, ◌<◌, eqb, get_or, set, take, drop, List, [], ◌∷◌, ◌++◌, length}
+use Rattle.std.proofs.Common.{sym, ap, ap₂, ◌∙◌, subst, true≢false, ⊎_elim, arith, eq-eqb, ne_eqb, length-append, take-append-drop, get_or-set_same, get_or-set_other, take_all, append-nil}
+use mathlib.Core.List.{Memᴰ}
 use Rattle.base.specs.Lists.{gather}
 use Rattle.base.specs.ListLaws.{by_test, by_eq, in_get_d}
 use Rattle.base.specs.GrowLaws.{gather_append, gather_more}

@@ -1,7 +1,6 @@
 -- A search over the instructions of a sheet in shape, one block a turn: any test of an instruction. Assumes nothing.
 use Rattle.std.specs.Prelude.{Bool, ◌≡◌, ◌⊎◌, List, ℕ, ◌+◌, ◌-◌, ◌*◌, ◌≤◌, ◌<◌, take, drop}
-use Rattle.std.proofs.Math.Path.{sym, ap}
-use Rattle.std.proofs.Common.{ap₂, ◌∙◌, inl, inr, arith}
+use Rattle.std.proofs.Common.{sym, ap, ap₂, ◌∙◌, inl, inr, arith}
 use Rattle.std.proofs.Math.Option.{none}
 use Rattle.base.specs.Sizes.{records_from, record_bytes, block_records}
 use Rattle.base.specs.Lists.{first_bad}

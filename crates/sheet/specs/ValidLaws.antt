@@ -1,7 +1,6 @@
 -- Every sheet that the checks accept is valid. Assumes nothing.
 use Rattle.std.specs.Prelude.{◌≡◌, true, not, ◌||◌, List, ◌++◌, ℕ, ◌-◌, ◌<◌, ltb, length}
-use Rattle.std.proofs.Common.{ap, ◌∙◌, arith}
-use borrow.Author.Tests.{ltb-true}
+use Rattle.std.proofs.Common.{ap, ◌∙◌, arith, ltb-true}
 use Rattle.base.specs.Lists.{all}
 use Rattle.base.specs.Refusals.{Accepted}
 use Rattle.base.specs.ListLaws.{and-true, or_not}

@@ -1,14 +1,8 @@
 -- Check 7: the search for a label, one label a turn, and the search for a missing one, one slot a turn. Assumes nothing.
-use Rattle.std.specs.Prelude.{◌≡◌, refl, Bool, ◌||◌, ℕ, zero, suc, ◌+◌, ◌-◌, ◌*◌, ◌/◌, ◌≤◌, ◌<◌, set, take, length}
-use Rattle.std.proofs.Common.{sym, ap₂, ◌∙◌, subst, true≢false, add-one, arith, length-set, drop_of_length-le, get_or-set_same, get_or-set_other}
-use Rattle.std.proofs.Math.Path.{ap}
-use Rattle.std.proofs.Math.Bool.{true, false, cond}
-use mathlib.Core.List.{List, ◌∷◌, Memᴰ}
+use Rattle.std.specs.Prelude.{◌≡◌, refl, Bool, ◌||◌, ℕ, zero, suc, ◌+◌, ◌-◌, ◌*◌, ◌/◌, ◌≤◌, ◌<◌, set, take, length, true, false, cond, List, ◌∷◌, eqb, get_or, drop}
+use Rattle.std.proofs.Common.{sym, ap₂, ◌∙◌, subst, true≢false, add-one, arith, length-set, drop_of_length-le, get_or-set_same, get_or-set_other, ap, eq-eqb, ne_eqb, drop-cons}
+use mathlib.Core.List.{Memᴰ}
 use Rattle.std.proofs.Math.Option.{some}
-use borrow.Author.Tests.{eq-eqb, ne_eqb}
-use Rattle.std.proofs.Math.Dec.{eqb}
-use Rattle.std.proofs.Math.ListN.{get_or, drop}
-use Rattle.std.proofs.Math.Seq.{drop-cons}
 use Rattle.base.specs.Lists.{gather, has, place, first_bad}
 use Rattle.base.specs.ListLaws.{by_eq, or-false, has_in}
 use Rattle.base.specs.SearchLaws.{bad_start, bad_more, bad_stop, bad_end}

@@ -1,13 +1,11 @@
 -- What is written is read again: numbers, records, blocks, and the code of a whole sheet. Assumes nothing.
-use Rattle.std.specs.Prelude.{◌≡◌, true, ℕ, zero, suc, ◌+◌, ◌-◌, ◌*◌, ◌/◌, ◌%◌, ◌≤◌, ◌<◌, get_or, drop, replicate}
-use Rattle.std.proofs.Math.Path.{refl, ap, ap₂}
-use Rattle.std.proofs.Common.{sym, ◌∙◌, ⊎_elim, mod-lt, arith, length-append, length-take, length-drop, drop_at, drop-drop, take-take, get_or-append-add, get_or-take}
+use Rattle.std.specs.Prelude.{◌≡◌, true, ℕ, zero, suc, ◌+◌, ◌-◌, ◌*◌, ◌/◌, ◌%◌, ◌≤◌, ◌<◌, get_or, drop, replicate, refl, List, [], ◌∷◌, ◌++◌, take, length}
+use Rattle.std.proofs.Common.{ap, ap₂, sym, ◌∙◌, ⊎_elim, mod-lt, arith, length-append, length-take, length-drop, drop_at, drop-drop, take-take, get_or-append-add, get_or-take, append_assoc, append-nil, zero-add, take_at, get_or-drop, ext_get_or}
 use mathlib.Core.List.Memᴰ
-use mathlib.Core.List.{List, [], ◌∷◌, ◌++◌, append_assoc, append-nil, Memᴰ}
-use Rattle.std.proofs.Math.Nat.{zero-add}
-use Rattle.std.proofs.Math.ListN.{take, length, get_or-append}
+use mathlib.Core.List.{Memᴰ}
+use Rattle.std.proofs.Math.ListN.{get_or-append}
 use Rattle.std.proofs.lemmas.List.{length-replicate}
-use Rattle.std.proofs.Math.Seq.{take_at, drop-append-add, get_or-drop, ext_get_or}
+use Rattle.std.proofs.Math.Seq.{drop-append-add}
 use Rattle.stackless_bytecode.specs.declared.Bytecode.{Bytecode}
 use Rattle.base.specs.Sizes.{block_bytes, list_places, record_bytes, records_from, block_records, max_number}
 use Rattle.base.specs.Lists.{tab, sum, gather, zeros}

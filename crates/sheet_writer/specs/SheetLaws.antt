@@ -1,11 +1,9 @@
 -- A sheet out of the records of its code: its blocks, its heading, and the whole. Assumes nothing.
-use Rattle.std.specs.Prelude.{◌≡◌, ℕ, zero, suc, ◌+◌, ◌-◌, ◌*◌, ◌%◌, ◌≤◌, ◌<◌, get_or, set}
-use Rattle.std.proofs.Math.Path.{refl, sym, ap, ap₂}
-use Rattle.std.proofs.Common.{◌∙◌, zero-add, add-one, arith, length-append, length-take, drop_of_length-le, take-append-drop, get_or-take, ext_get_or}
-use mathlib.Core.List.{List, [], ◌∷◌, ◌++◌, append_assoc, append-nil}
-use Rattle.std.proofs.Math.ListN.{length, take, drop, replicate, length-drop, get_or-append}
+use Rattle.std.specs.Prelude.{◌≡◌, ℕ, zero, suc, ◌+◌, ◌-◌, ◌*◌, ◌%◌, ◌≤◌, ◌<◌, get_or, set, refl, List, [], ◌∷◌, ◌++◌, length, take, drop, replicate}
+use Rattle.std.proofs.Common.{sym, ap, ap₂, ◌∙◌, zero-add, add-one, arith, length-append, length-take, drop_of_length-le, take-append-drop, get_or-take, ext_get_or, append_assoc, append-nil, length-drop, take_at, drop_at, take_all, drop-drop, get_or-drop, length-take-le}
+use Rattle.std.proofs.Math.ListN.{get_or-append}
 use Rattle.std.proofs.lemmas.List.{length-replicate}
-use Rattle.std.proofs.Math.Seq.{take_at, drop_at, take_all, drop-drop, get_or-drop, take-append-add, length-take-le}
+use Rattle.std.proofs.Math.Seq.{take-append-add}
 use Rattle.base.specs.Sizes.{block_bytes, records_from, block_records, record_bytes, max_instructions, max_blocks}
 use Rattle.base.specs.Lists.{tab, sum, gather, joins}
 use Rattle.base.specs.Bytes.{bytes_of, part}

@@ -1,9 +1,6 @@
 -- An accepted sheet of bytes is what its heading and its code write. Assumes nothing.
-use Rattle.std.specs.Prelude.{◌≡◌, Bool, true, cond, ◌||◌, ◌&&◌, List, [], ◌∷◌, ◌++◌, ℕ, zero, suc, ◌+◌, ◌-◌, ◌*◌, ◌/◌, ◌%◌, ◌≤◌, ◌<◌, eqb, ltb, get_or, length, take, drop}
-use Rattle.std.proofs.Math.Path.{refl, sym}
-use Rattle.std.proofs.Common.{ap, ap₂, ◌∙◌, subst, append_assoc, zero-add, mod-lt, arith, eqb-true, ne_eqb, le-ltb, take-append-drop, drop_of_length-le, ext_get_or, drop-drop, length-take-le}
-use Rattle.std.proofs.Math.ListN.{length-take, length-drop}
-use Rattle.std.proofs.Math.Seq.{get_or-take, get_or-drop}
+use Rattle.std.specs.Prelude.{◌≡◌, Bool, true, cond, ◌||◌, ◌&&◌, List, [], ◌∷◌, ◌++◌, ℕ, zero, suc, ◌+◌, ◌-◌, ◌*◌, ◌/◌, ◌%◌, ◌≤◌, ◌<◌, eqb, ltb, get_or, length, take, drop, refl}
+use Rattle.std.proofs.Common.{sym, ap, ap₂, ◌∙◌, subst, append_assoc, zero-add, mod-lt, arith, eqb-true, ne_eqb, le-ltb, take-append-drop, drop_of_length-le, ext_get_or, drop-drop, length-take-le, length-take, length-drop, get_or-take, get_or-drop}
 use Rattle.base.specs.Sizes.{block_bytes, list_places, record_bytes, records_from, block_records}
 use Rattle.base.specs.Refusals.{Accepted}
 use Rattle.base.specs.Lists.{tab, sum, zeros}

@@ -1,8 +1,7 @@
 -- What the answers of `lookup` say: which label is defined, where, and named by what. Assumes nothing.
-use Rattle.std.specs.Prelude.{◌≡◌, refl, Bool, true, false, cond, not, ℕ, ◌<◌, length}
-use Rattle.std.proofs.Common.{sym, ◌∙◌, subst, true≢false, arith}
-use Rattle.std.proofs.Math.Path.{ap}
-use mathlib.Core.List.{List, Memᴰ}
+use Rattle.std.specs.Prelude.{◌≡◌, refl, Bool, true, false, cond, not, ℕ, ◌<◌, length, List}
+use Rattle.std.proofs.Common.{sym, ◌∙◌, subst, true≢false, arith, ap}
+use mathlib.Core.List.{Memᴰ}
 use Rattle.std.proofs.Math.Option.{Option, none, some}
 use Rattle.std.proofs.lemmas.Bool.{not-false}
 use Rattle.base.specs.Lists.{gather, has, first_bad}

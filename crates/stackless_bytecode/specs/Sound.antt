@@ -1,6 +1,6 @@
 -- What the flow needs of code, as checks 3, 18, 7 and 8 leave it. Assumes nothing.
-use Rattle.std.specs.Prelude.{◌≡◌, true, false, ℕ, ◌-◌, ◌<◌, length}
-use mathlib.Core.List.{List, Memᴰ}
+use Rattle.std.specs.Prelude.{◌≡◌, true, false, ℕ, ◌-◌, ◌<◌, length, List}
+use mathlib.Core.List.{Memᴰ}
 use Rattle.stackless_bytecode.specs.declared.Bytecode.{Bytecode}
 use Rattle.stackless_bytecode.specs.Kinds.{at, stop_ok, falls_through, branch_dests, label_of}
 use Rattle.stackless_bytecode.specs.Labels.{label_offset}

@@ -14,8 +14,8 @@
 --   firstEdge     key                                 where its part of edges starts; the next key's start ends it (Sorting)
 --   edges         firstEdge                           what the key leads to backward (Sorting)
 --   table         block by offset, six places each    its row of the flow table
-use Rattle.std.specs.Prelude.{◌≡◌, true, cond, ℕ, suc, ◌+◌, ◌*◌, ◌≤◌, ◌<◌, eqb, get_or, set, length, take}
-use mathlib.Core.List.{List, [], ◌∷◌, ◌++◌, map, Memᴰ}
+use Rattle.std.specs.Prelude.{◌≡◌, true, cond, ℕ, suc, ◌+◌, ◌*◌, ◌≤◌, ◌<◌, eqb, get_or, set, length, take, List, [], ◌∷◌, ◌++◌, map}
+use mathlib.Core.List.{Memᴰ}
 use Rattle.base.specs.Sizes.{max_instructions, record_bytes}
 use Rattle.base.specs.Lists.{keep, over}
 use Rattle.base.specs.Numbering.{number_in}

@@ -1,15 +1,10 @@
 -- Blocks and keys of code that the checks let through. Assumes nothing.
-use Rattle.std.specs.Prelude.{◌≡◌, ◌⊎◌, Bool, cond, not, ◌||◌, eqb}
-use Rattle.std.proofs.Math.Path.{refl, sym, ap, subst}
-use Rattle.std.proofs.Common.{ap₂, ◌∙◌, true≢false}
-use Rattle.std.proofs.Math.Logic.{inl, inr, ⊎_elim}
-use Rattle.std.proofs.Math.Bool.{true, false, not-not}
+use Rattle.std.specs.Prelude.{◌≡◌, ◌⊎◌, Bool, cond, not, ◌||◌, eqb, refl, true, false, List, [], ◌∷◌, ◌++◌, map, ℕ, zero, suc, ◌+◌, ◌-◌, ◌≤◌, ◌<◌, length}
+use Rattle.std.proofs.Common.{sym, ap, subst, ap₂, ◌∙◌, true≢false, inl, inr, ⊎_elim, arith}
+use Rattle.std.proofs.Math.Bool.{not-not}
 use mathlib.Core.List.Memᴰ
-use mathlib.Core.List.{List, [], ◌∷◌, ◌++◌, map, Memᴰ}
-use Prim.Native.Nat.{ℕ, zero, suc, ◌+◌, ◌-◌, ◌≤◌, ◌<◌}
-use native.Mathlib.Omega.{arith}
+use mathlib.Core.List.{Memᴰ}
 use Rattle.std.proofs.lemmas.Bool.{not-false}
-use Rattle.std.proofs.Math.ListN.{length}
 use Rattle.stackless_bytecode.specs.declared.Bytecode.{Bytecode}
 use Rattle.base.specs.Lists.{keep, any, Distinct}
 use Rattle.stackless_bytecode.specs.Kinds.{Branch, Jump, at, is_exit, is_flagged, is_branch, falls_through, branch_dests, label_of}

@@ -1,9 +1,7 @@
 -- What an accepted sheet gives the flow. Assumes nothing.
-use Rattle.std.specs.Prelude.{◌≡◌, refl, true, false, ℕ, ◌+◌, ◌*◌, ◌<◌, ◌≤◌, get_or, set, length}
-use Rattle.std.proofs.Math.Path.{sym}
-use Rattle.std.proofs.Common.{ap, ap₂, ◌∙◌, subst, add-one, arith, get_or-set_other}
-use mathlib.Core.List.{List, [], ◌∷◌, Memᴰ}
-use Rattle.std.proofs.Math.Seq.{get_or-set_same}
+use Rattle.std.specs.Prelude.{◌≡◌, refl, true, false, ℕ, ◌+◌, ◌*◌, ◌<◌, ◌≤◌, get_or, set, length, List, [], ◌∷◌}
+use Rattle.std.proofs.Common.{sym, ap, ap₂, ◌∙◌, subst, add-one, arith, get_or-set_other, get_or-set_same}
+use mathlib.Core.List.{Memᴰ}
 use Rattle.base.specs.Sizes.{max_instructions}
 use Rattle.base.specs.Refusals.{Accepted}
 use Rattle.base.specs.ListLaws.{by_eq}

@@ -1,10 +1,7 @@
 -- From the arrays to the definitions: the keys and the rows of code that the checks let through. Assumes nothing.
-use Rattle.std.specs.Prelude.{◌≡◌, refl, Bool, true, ℕ, ◌+◌, ◌≤◌, ◌<◌, length, take}
-use Rattle.std.proofs.Math.Path.{sym, ap, ap₂}
-use Rattle.std.proofs.Common.{◌∙◌, subst, zero-le, le_antisymm, arith, length-take, get_or-take}
-use Rattle.std.proofs.Math.Bool.{cond}
-use mathlib.Core.List.{List, [], ◌∷◌, ◌++◌, map, Memᴰ}
-use Rattle.std.proofs.Math.ListN.{get_or}
+use Rattle.std.specs.Prelude.{◌≡◌, refl, Bool, true, ℕ, ◌+◌, ◌≤◌, ◌<◌, length, take, cond, List, [], ◌∷◌, ◌++◌, map, get_or}
+use Rattle.std.proofs.Common.{sym, ap, ap₂, ◌∙◌, subst, zero-le, le_antisymm, arith, length-take, get_or-take}
+use mathlib.Core.List.{Memᴰ}
 use Rattle.base.specs.NumberingLaws.{number_none}
 use Rattle.base.specs.Numbering.{Gives}
 use Rattle.base.specs.Lists.{gather, has, firsts, Distinct}

@@ -1,7 +1,7 @@
 -- What the flow table says of an accepted sheet's code, in the numbers that a caller reads: the blocks cut the code, their keys are 2 to B + 1, and a row has two successor keys
 -- at most. Assumes nothing.
-use Rattle.std.specs.Prelude.{◌≡◌, true, false, ℕ, ◌+◌, ◌*◌, ◌≤◌, ◌<◌, get_or, length}
-use mathlib.Core.List.{List, [], Memᴰ}
+use Rattle.std.specs.Prelude.{◌≡◌, true, false, ℕ, ◌+◌, ◌*◌, ◌≤◌, ◌<◌, get_or, length, List, []}
+use mathlib.Core.List.{Memᴰ}
 use Rattle.base.specs.Sizes.{row_numbers}
 use Rattle.stackless_bytecode.specs.declared.Bytecode.{Bytecode}
 use Rattle.stackless_bytecode.specs.Kinds.{at, is_exit, is_branch, branch_dests}

@@ -1,11 +1,7 @@
 -- The flow table means what it is to mean. Assumes nothing.
-use Rattle.std.specs.Prelude.{◌≡◌, ℕ, ◌+◌, ◌*◌, ◌≤◌, ◌<◌, length, drop}
-use Rattle.std.proofs.Math.Path.{sym, ap}
-use Rattle.std.proofs.Common.{◌∙◌, subst, get_or-take}
-use mathlib.Core.List.{List, ◌++◌, Memᴰ}
-use native.Mathlib.Omega.{arith}
-use Rattle.std.proofs.Math.ListN.{get_or}
-use Rattle.std.proofs.Math.Seq.{get_or-drop}
+use Rattle.std.specs.Prelude.{◌≡◌, ℕ, ◌+◌, ◌*◌, ◌≤◌, ◌<◌, length, drop, List, ◌++◌, get_or}
+use Rattle.std.proofs.Common.{sym, ap, ◌∙◌, subst, get_or-take, arith, get_or-drop}
+use mathlib.Core.List.{Memᴰ}
 use Rattle.base.specs.Sizes.{row_numbers}
 use Rattle.base.specs.Lists.{place}
 use Rattle.base.specs.ListLaws.{get_d_in, place_lt, get_d_place, place_get_d}

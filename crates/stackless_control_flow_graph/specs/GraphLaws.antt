@@ -1,12 +1,7 @@
 -- What holds of the blocks and the keys of every code that the checks let through. Assumes nothing.
-use Rattle.std.specs.Prelude.{◌≡◌, refl, Bool, false, ◌||◌, ℕ, zero, suc, ◌+◌, ◌-◌, ◌≤◌, ◌<◌}
-use Rattle.std.proofs.Math.Path.{sym, ap}
-use Rattle.std.proofs.Common.{◌∙◌}
-use Rattle.std.proofs.Math.Logic.{inl, inr}
-use Rattle.std.proofs.Math.Bool.{true}
-use mathlib.Core.List.{List, Memᴰ}
-use native.Mathlib.Omega.{arith}
-use Rattle.std.proofs.Math.ListN.{get_or, length}
+use Rattle.std.specs.Prelude.{◌≡◌, refl, Bool, false, ◌||◌, ℕ, zero, suc, ◌+◌, ◌-◌, ◌≤◌, ◌<◌, true, List, get_or, length}
+use Rattle.std.proofs.Common.{sym, ap, ◌∙◌, inl, inr, arith}
+use mathlib.Core.List.{Memᴰ}
 use Rattle.base.specs.Lists.{any, place}
 use Rattle.base.specs.ListLaws.{by_test, by_eq, get_d_in, place_lt, get_d_place, place_get_d}
 use Rattle.stackless_bytecode.specs.declared.Bytecode.{Bytecode}

@@ -1,8 +1,8 @@
 -- Keys, one offset after the other: an offset or none, a block, all blocks. Assumes nothing.
-use Rattle.std.specs.Prelude.{◌≡◌, refl, ◌≢◌, Bool, true, cond, ℕ, ◌+◌, ◌*◌, ◌<◌, get_or, length, take}
-use Rattle.std.proofs.Common.{sym, ap, ◌∙◌, subst, arith, eq-eqb, ne_eqb}
+use Rattle.std.specs.Prelude.{◌≡◌, refl, ◌≢◌, Bool, true, cond, ℕ, ◌+◌, ◌*◌, ◌<◌, get_or, length, take, List, [], ◌∷◌, ◌++◌, map}
+use Rattle.std.proofs.Common.{sym, ap, ◌∙◌, subst, arith, eq-eqb, ne_eqb, append-nil}
 use mathlib.Core.List.Memᴰ
-use mathlib.Core.List.{List, [], ◌∷◌, ◌++◌, map, append-nil, Memᴰ}
+use mathlib.Core.List.{Memᴰ}
 use Rattle.base.specs.Lists.{has, firsts, gather}
 use Rattle.stackless_control_flow_graph.specs.Blocks.{key_of}
 use Rattle.stackless_control_flow_graph.specs.Arrays.{no_offset, offset_in, pair_of, succs_in, Within, first_key, key_in, Near, takers, BlockArrays, BlockAt}

@@ -1,9 +1,6 @@
 -- The successors of a Call, by its flag, where no Stop has an abort action. Assumes nothing.
-use Rattle.std.specs.Prelude.{◌≡◌, Bool, true, false, not, ◌||◌, [], ◌∷◌, ◌++◌, ℕ, length, take}
-use Rattle.std.proofs.Math.Path.{ap, ap₂}
-use Rattle.std.proofs.Common.{◌∙◌}
-use Rattle.std.proofs.Math.Bool.{cond}
-use Rattle.std.proofs.Math.Dec.{eqb}
+use Rattle.std.specs.Prelude.{◌≡◌, Bool, true, false, not, ◌||◌, [], ◌∷◌, ◌++◌, ℕ, length, take, cond, eqb}
+use Rattle.std.proofs.Common.{ap, ap₂, ◌∙◌}
 use Rattle.stackless_bytecode.specs.declared.Bytecode.{Bytecode}
 use Rattle.stackless_bytecode.specs.Kinds.{Call, Branch, Jump, is_exit, is_flagged, stop_ok, falls_through, branch_dests}
 use Rattle.stackless_bytecode.specs.KindLaws.{flagged_goes}

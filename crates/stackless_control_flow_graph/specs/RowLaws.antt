@@ -1,8 +1,6 @@
 -- The rows of the flow table, one a turn. Assumes nothing.
-use Rattle.std.specs.Prelude.{◌≡◌, refl, Bool, true, false, List, [], ◌∷◌, ◌++◌, ℕ, ◌+◌, ◌*◌, ◌≤◌, ◌<◌, get_or, length, take, drop}
-use Rattle.std.proofs.Common.{sym, ap₂, ◌∙◌}
-use Rattle.std.proofs.Math.Path.{ap}
-use Rattle.std.proofs.Math.Bool.{cond}
+use Rattle.std.specs.Prelude.{◌≡◌, refl, Bool, true, false, List, [], ◌∷◌, ◌++◌, ℕ, ◌+◌, ◌*◌, ◌≤◌, ◌<◌, get_or, length, take, drop, cond}
+use Rattle.std.proofs.Common.{sym, ap₂, ◌∙◌, ap}
 use Rattle.std.proofs.lemmas.List.Edits.{sets}
 use Rattle.base.specs.Lists.{gather}
 use Rattle.base.specs.WriteLaws.{fill}

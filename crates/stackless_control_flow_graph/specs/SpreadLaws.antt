@@ -1,7 +1,6 @@
 -- The key of each offset's block, from the keys of the lowers: one offset after the other takes its own key or else that of the offset before. Assumes nothing.
 use Rattle.std.specs.Prelude.{◌≡◌, refl, Bool, true, false, cond, List, ℕ, zero, suc, ◌+◌, ◌≤◌, ◌<◌, eqb, get_or, set, length}
-use Rattle.std.proofs.Common.{sym, ◌∙◌, true≢false, arith, eq-eqb, ne_eqb, get_or-set_same, get_or-set_other}
-use Rattle.std.proofs.Math.Path.{ap}
+use Rattle.std.proofs.Common.{sym, ◌∙◌, true≢false, arith, eq-eqb, ne_eqb, get_or-set_same, get_or-set_other, ap}
 use Rattle.base.specs.NumberingLaws.{number_none}
 use Rattle.base.specs.Lists.{has}
 use Rattle.base.specs.ListLaws.{by_test, by_eq, in_has, has_in}

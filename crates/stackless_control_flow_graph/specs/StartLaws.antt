@@ -1,12 +1,8 @@
 -- The pass over the instructions: successors into their places, and marks where blocks start. Assumes nothing.
-use Rattle.std.specs.Prelude.{◌≡◌, refl, ◌⊎◌, Bool, false, cond, not, ◌||◌, ℕ, zero, suc, ◌+◌, ◌*◌, ◌/◌, ◌%◌, ◌-◌, ◌≤◌, ◌<◌, eqb, set, length, take}
-use Rattle.std.proofs.Common.{sym, ap₂, ◌∙◌, subst, ⊎_elim, true≢false, arith, add-one, eq-eqb, ne_eqb, length-set, get_or-set_same, get_or-set_other}
-use Rattle.std.proofs.Math.Path.{ap}
-use Rattle.std.proofs.Math.Logic.{inl, inr}
-use Rattle.std.proofs.Math.Bool.{true}
+use Rattle.std.specs.Prelude.{◌≡◌, refl, ◌⊎◌, Bool, false, cond, not, ◌||◌, ℕ, zero, suc, ◌+◌, ◌*◌, ◌/◌, ◌%◌, ◌-◌, ◌≤◌, ◌<◌, eqb, set, length, take, true, List, [], ◌∷◌, ◌++◌, map, get_or}
+use Rattle.std.proofs.Common.{sym, ap₂, ◌∙◌, subst, ⊎_elim, true≢false, arith, add-one, eq-eqb, ne_eqb, length-set, get_or-set_same, get_or-set_other, ap, inl, inr}
 use mathlib.Core.List.Memᴰ
-use mathlib.Core.List.{List, [], ◌∷◌, ◌++◌, map, Memᴰ}
-use Rattle.std.proofs.Math.ListN.{get_or}
+use mathlib.Core.List.{Memᴰ}
 use Rattle.std.proofs.Math.Seq.{take-nil}
 use Rattle.base.specs.Lists.{over, any}
 use Rattle.base.specs.ListLaws.{by_test, by_eq, or-true, in_any}

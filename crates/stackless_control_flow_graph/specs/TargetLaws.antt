@@ -1,9 +1,7 @@
 -- Blocks start at the targets of Branch, Jump and flagged Call, as in the source's `record_block_ids`: a named Label is such a target. Assumes nothing.
-use Rattle.std.specs.Prelude.{◌≡◌, Bool, true, ◌||◌, ℕ, suc, ◌<◌, length}
-use Rattle.std.proofs.Math.Path.{refl, sym, ap}
-use Rattle.std.proofs.Common.{◌∙◌, subst, true≢false}
-use Rattle.std.proofs.Math.Bool.{false}
-use mathlib.Core.List.{List, map, Memᴰ}
+use Rattle.std.specs.Prelude.{◌≡◌, Bool, true, ◌||◌, ℕ, suc, ◌<◌, length, refl, false, List, map}
+use Rattle.std.proofs.Common.{sym, ap, ◌∙◌, subst, true≢false}
+use mathlib.Core.List.{Memᴰ}
 use Rattle.base.specs.Lists.{gather, any, has}
 use Rattle.base.specs.ListLaws.{by_test, any_in, in_any, has_in, in_has, gather_in, in_gather, map_in, in_map, get_d_in, in_get_d}
 use Rattle.stackless_bytecode.specs.declared.Bytecode.{Bytecode}

@@ -1,11 +1,7 @@
 use Rattle.agreement.specs.PairLaws.{pairs_more, pairs_all, inside_set}
 use Rattle.base.specs.WriteLaws.{wrote}
 use Rattle.agreement.specs.Agree.{pairs}
-use Prim.Native.Nat.{◌+◌, ◌*◌, ◌-◌, ◌≤◌}
-use mathlib.Core.Path.{◌≡◌}
-use lib.ListN.{length}
-use borrow.Author.Rules.{rules}
-use native.Mathlib.Omega.{arith}
+use Rattle.std.proofs.Common.{◌+◌, ◌*◌, ◌-◌, ◌≤◌, ◌≡◌, length, rules, arith}
 use Rattle.agreement.proofs.bytes_of.Goals as goal
 
 pub loop-i-preserved : goal.loop-i-preserved

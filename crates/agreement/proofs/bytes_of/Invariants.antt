@@ -1,9 +1,7 @@
 use Rattle.agreement.specs.PairLaws.{pairs_more, pairs_all, inside_set}
 use Rattle.base.specs.WriteLaws.{wrote}
 use Rattle.agreement.specs.Agree.{pairs}
-use Prim.Native.Nat.{◌+◌, ◌*◌, ◌-◌, ◌≤◌}
-use mathlib.Core.Path.{◌≡◌}
-use lib.ListN.{length}
+use Rattle.std.proofs.Common.{◌+◌, ◌*◌, ◌-◌, ◌≤◌, ◌≡◌, length}
 use Rattle.agreement.proofs.bytes_of.Given as goal
 
 abbrev pub invariant-loop-i : goal.invariant-loop-i

@@ -1,9 +1,4 @@
-use mathlib.Core.Path.{◌≡◌, refl, ap}
-use mathlib.Core.List.{List}
-use Prim.Native.Nat.{ℕ, ◌-◌, ◌<◌, ◌≤◌}
-use lib.ListN.{length, get_or}
-use lib.Seq.{ext_get_or}
-use borrow.Author.Count.{below_none, below_more}
+use Rattle.std.proofs.Common.{◌≡◌, refl, ap, List, ℕ, ◌-◌, ◌<◌, ◌≤◌, length, get_or, ext_get_or, below_none, below_more}
 use Rattle.agreement.specs.AgreeLaws.{never}
 use Rattle.agreement.proofs.same_numbers.Given as goal
 

@@ -1,8 +1,4 @@
-use borrow.Author.Rules.{rules}
-use native.Mathlib.Omega.{arith}
-use native.Mathlib.Nat.{le_refl}
-use mathlib.Core.Path.{◌≡◌, sym, ◌∙◌}
-use lib.ListN.{length}
+use Rattle.std.proofs.Common.{rules, arith, le_refl, ◌≡◌, sym, ◌∙◌, length}
 use Rattle.dataflow_domains.specs.Sets.{mask}
 use Rattle.borrow_analysis.specs.AncestorLaws.{collect_skip}
 use Rattle.borrow_analysis.specs.VisitLaws.{written_same}

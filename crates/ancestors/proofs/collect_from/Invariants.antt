@@ -1,6 +1,5 @@
-use borrow.Author.Tests.{eqb-true, eqb-false, not-true, not-false}
-use mathlib.Core.Path.{refl, sym, ◌∙◌, subst}
-use Prim.Native.Nat.{ℕ, ◌<◌}
+use Rattle.std.proofs.Common.{eqb-true, refl, sym, ◌∙◌, subst, ℕ, ◌<◌}
+use Rattle.std.proofs.lemmas.Bool.{eqb-false, not-true, not-false}
 use Rattle.dataflow_domains.specs.MemberLaws.{lowest_lt, walk_falls}
 use Rattle.dataflow_domains.specs.Sets.{mask}
 use Rattle.borrow_analysis.specs.Visiting.{StartVisits}

@@ -1,8 +1,5 @@
-use borrow.Author.Rules.{rules}
-use borrow.Author.Tests.{not-true, not-false}
-use native.Mathlib.Omega.{arith}
-use mathlib.Core.Path.{sym, ap, ◌∙◌}
-use Prim.Native.Nat.{◌-◌}
+use Rattle.std.proofs.Common.{rules, arith, sym, ap, ◌∙◌, ◌-◌}
+use Rattle.std.proofs.lemmas.Bool.{not-true, not-false}
 use Rattle.dataflow_domains.specs.Sets.{mask}
 use Rattle.ancestors.specs.Ancestors.{passed_over}
 use Rattle.ancestors.specs.Walking.{ScansOn}

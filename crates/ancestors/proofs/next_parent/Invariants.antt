@@ -1,6 +1,5 @@
-use borrow.Author.Tests.{not-true, not-false}
-use mathlib.Core.Path.{sym, ap, ◌∙◌}
-use Prim.Native.Nat.{◌-◌}
+use Rattle.std.proofs.lemmas.Bool.{not-true, not-false}
+use Rattle.std.proofs.Common.{sym, ap, ◌∙◌, ◌-◌}
 use Rattle.dataflow_domains.specs.Sets.{mask}
 use Rattle.ancestors.specs.Ancestors.{passed_over}
 use Rattle.ancestors.specs.Walking.{ScansOn}

@@ -1,6 +1,4 @@
-use borrow.Author.Rules.{rules}
-use native.Mathlib.Omega.{arith}
-use mathlib.Core.Path.{◌≡◌, sym, ap, ◌∙◌, subst}
+use Rattle.std.proofs.Common.{rules, arith, ◌≡◌, sym, ap, ◌∙◌, subst}
 use Rattle.borrow_analysis.specs.AcceptedLaws.{inside_wider}
 use Rattle.borrow_analysis.specs.VisitLaws.{parent_below}
 use Rattle.ancestors.specs.Ancestors.{passed_over}

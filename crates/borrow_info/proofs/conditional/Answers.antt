@@ -1,14 +1,10 @@
-use native.Mathlib.Omega.{arith}
-use mathlib.Core.Path.{sym, ap, ◌∙◌}
-use mathlib.Core.Bool.{Bool, cond}
-use mathlib.Core.List.{[]}
+use Rattle.std.proofs.Common.{arith, sym, ap, ◌∙◌, Bool, cond, [], rules}
 use Rattle.base.specs.Refusals.{verdict_of}
 use Rattle.base.specs.ReplyLaws.{refuses, done_result, refused_number}
 use Rattle.base.specs.RefusalLaws.{accepted_by}
 use Rattle.borrow_analysis.specs.AcceptedLaws.{accepted_asked, inside_wider}
 use Rattle.borrow_analysis.specs.CallLaws.{conditional_refused, conditional_done}
 use Rattle.borrow_analysis.specs.MeaningLaws.{conditional_answer}
-use borrow.Author.Rules.{rules}
 use Rattle.borrow_info.proofs.conditional.Goals as goal
 
 pub returns-in-Refused : goal.returns-in-Refused

@@ -1,6 +1,4 @@
-use native.Mathlib.Omega.{arith}
-use mathlib.Core.Path.{sym, ap, ◌∙◌, subst}
-use lib.Seq.{length-take-le}
+use Rattle.std.proofs.Common.{arith, sym, ap, ◌∙◌, subst, length-take-le, rules}
 use Rattle.base.specs.declared.Refusal.TheVariants.{OutputShort}
 use Rattle.base.specs.Refusals.{verdict_of}
 use Rattle.base.specs.ReplyLaws.{refuses, refused_number}
@@ -9,7 +7,6 @@ use Rattle.borrow_analysis.specs.Meaning.{DyingList}
 use Rattle.borrow_analysis.specs.AcceptedLaws.{accepted_graphs, inside_wider}
 use Rattle.borrow_analysis.specs.CallLaws.{dying_refused, dying_short, dying_done}
 use Rattle.borrow_analysis.specs.MeaningLaws.{dying_means}
-use borrow.Author.Rules.{rules}
 use Rattle.borrow_info.proofs.dying.Goals as goal
 
 pub returns-in-Refused : goal.returns-in-Refused

@@ -1,5 +1,4 @@
-use borrow.Author.Rules.{rules}
-use mathlib.Core.Path.{sym, ap, ◌∙◌}
+use Rattle.std.proofs.Common.{rules, sym, ap, ◌∙◌}
 use Rattle.base.specs.Refusals.{verdict_of}
 use Rattle.c_api.specs.Packed.{packed}
 use Rattle.c_api.specs.PackedLaws.{check_accepted, check_refused}

@@ -1,6 +1,5 @@
 use Rattle.base.specs.ByteLaws.{number_more, number_end}
-use native.Mathlib.Omega.{arith}
-use borrow.Author.Rules.{rules}
+use Rattle.std.proofs.Common.{arith, rules}
 use Rattle.dataflow_domains.proofs.get_word.Goals as goal
 
 pub returns : goal.returns

@@ -1,6 +1,5 @@
 use Rattle.dataflow_domains.specs.MemberLaws.{less_lowest}
-use native.Mathlib.Omega.{arith}
-use borrow.Author.Rules.{rules}
+use Rattle.std.proofs.Common.{arith, rules}
 use Rattle.dataflow_domains.proofs.less.Goals as goal
 
 pub returns : goal.returns

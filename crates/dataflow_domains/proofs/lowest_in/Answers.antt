@@ -1,9 +1,6 @@
-use mathlib.Core.Path.{refl}
-use Prim.Native.Nat.{ℕ, ◌<◌, ◌^◌}
+use Rattle.std.proofs.Common.{refl, ℕ, ◌<◌, ◌^◌, arith, rules}
 use lib.Count.{count_trailing_zeros, trailing_le}
 use Rattle.dataflow_domains.specs.MemberLaws.{trailing_lowest, lowest_lt}
-use native.Mathlib.Omega.{arith}
-use borrow.Author.Rules.{rules}
 use Rattle.dataflow_domains.proofs.lowest_in.Goals as goal
 
 below : (n : ℕ) → 0 < n → n < 2 ^ 64 → count_trailing_zeros 64 n < 64

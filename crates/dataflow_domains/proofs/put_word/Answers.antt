@@ -1,11 +1,6 @@
-use mathlib.Core.Path.{sym, ◌∙◌}
-use mathlib.Core.List.{[], ◌∷◌}
-use Prim.Native.Nat.{◌/◌, ◌%◌}
-use lib.ListN.{length-set}
+use Rattle.std.proofs.Common.{sym, ◌∙◌, [], ◌∷◌, ◌/◌, ◌%◌, length-set, arith, rules}
 use Rattle.base.specs.WriteLaws.{fill}
 use Rattle.dataflow_domains.specs.ByteWords.{word_bytes}
-use native.Mathlib.Omega.{arith}
-use borrow.Author.Rules.{rules}
 use Rattle.dataflow_domains.proofs.put_word.Goals as goal
 
 pub returns : goal.returns

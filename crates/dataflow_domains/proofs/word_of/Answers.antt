@@ -1,10 +1,5 @@
-use mathlib.Core.Path.{◌∙◌}
-use Prim.Native.Nat.{◌^◌, ◌%◌}
-use native.Mathlib.Nat.{one-mul}
-use lib.Pow.{shl_exact}
+use Rattle.std.proofs.Common.{◌∙◌, ◌^◌, ◌%◌, one-mul, shl_exact, arith, rules}
 use Rattle.dataflow_domains.specs.SetLaws.{lone_here, lone_else}
-use native.Mathlib.Omega.{arith}
-use borrow.Author.Rules.{rules}
 use Rattle.dataflow_domains.proofs.word_of.Goals as goal
 
 pub returns-then-j-at : goal.returns-then-j-at

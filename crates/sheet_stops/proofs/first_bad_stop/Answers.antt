@@ -1,8 +1,4 @@
-use mathlib.Core.Path.{◌≡◌, sym, ap, ◌∙◌}
-use Prim.Native.Nat.{◌+◌, ◌-◌, ◌*◌, ◌≤◌}
-use native.Mathlib.Omega.{arith}
-use borrow.Author.Rules.{rules}
-use lib.ListN.{length}
+use Rattle.std.proofs.Common.{◌≡◌, sym, ap, ◌∙◌, ◌+◌, ◌-◌, ◌*◌, ◌≤◌, arith, rules, length}
 use Rattle.base.specs.Sizes.{block_bytes, block_records}
 use Rattle.base.specs.Lists.{first_bad}
 use Rattle.base.specs.SearchLaws.{bad_start, bad_end}

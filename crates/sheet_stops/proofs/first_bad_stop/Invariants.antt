@@ -1,6 +1,4 @@
-use mathlib.Core.Path.{◌≡◌, sym, ap, ◌∙◌}
-use Prim.Native.Nat.{◌+◌, ◌-◌, ◌*◌, ◌≤◌}
-use lib.ListN.{length}
+use Rattle.std.proofs.Common.{◌≡◌, sym, ap, ◌∙◌, ◌+◌, ◌-◌, ◌*◌, ◌≤◌, length}
 use Rattle.base.specs.Sizes.{block_bytes, block_records}
 use Rattle.base.specs.Lists.{first_bad}
 use Rattle.base.specs.SearchLaws.{bad_start, bad_end}

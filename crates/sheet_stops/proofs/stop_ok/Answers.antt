@@ -1,6 +1,4 @@
-use mathlib.Core.Path.{sym, ap, ap₂, ◌∙◌}
-use mathlib.Core.Bool.{Bool, not, ◌&&◌}
-use borrow.Author.Rules.{rules}
+use Rattle.std.proofs.Common.{sym, ap, ap₂, ◌∙◌, Bool, not, ◌&&◌, rules}
 use Rattle.stackless_bytecode.specs.Kinds.{is_flagged, stop_ok}
 use Rattle.sheet.specs.Layout.{decode}
 use Rattle.sheet_stops.proofs.stop_ok.Goals as goal

@@ -1,6 +1,4 @@
-use mathlib.Core.Path.{◌≡◌, refl, sym, ◌∙◌}
-use Prim.Native.Nat.{◌/◌, ◌≤◌}
-use lib.ListN.{length}
+use Rattle.std.proofs.Common.{◌≡◌, refl, sym, ◌∙◌, ◌/◌, ◌≤◌, length}
 use Rattle.ancestors.specs.Chains.{Chained, Firsts}
 use Rattle.ancestors.specs.ChainLaws.{chain_none, chain_on, chain_all}
 use Rattle.ancestors.proofs.chain.chain.Given as goal

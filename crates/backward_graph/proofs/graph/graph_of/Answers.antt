@@ -1,6 +1,4 @@
-use mathlib.Core.Path.{◌∙◌}
-use native.Mathlib.Omega.{arith}
-use borrow.Author.Rules.{rules}
+use Rattle.std.proofs.Common.{◌∙◌, arith, rules}
 use Rattle.stackless_control_flow_graph.specs.CheckedSheetLaws.{checked_shaped}
 use Rattle.stackless_control_flow_graph.specs.GraphTableLaws.{few_blocks, keys_ready, some_keys, low_keys, graph_tables}
 use Rattle.backward_graph.proofs.graph.graph_of.Goals as goal

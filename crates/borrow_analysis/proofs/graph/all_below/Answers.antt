@@ -1,8 +1,5 @@
-use borrow.Author.Rules.{rules}
-use native.Mathlib.Omega.{arith}
-use mathlib.Core.Path.{sym, ◌∙◌, subst}
-use Prim.Native.Nat.{ℕ, ◌<◌}
-use borrow.Author.Tests.{eqb-true, eqb-false, not-true, not-false}
+use Rattle.std.proofs.Common.{rules, arith, sym, ◌∙◌, subst, ℕ, ◌<◌, eqb-true}
+use Rattle.std.proofs.lemmas.Bool.{eqb-false, not-true, not-false}
 use Rattle.dataflow_domains.specs.MemberLaws.{walk_falls}
 use Rattle.dataflow_domains.specs.Sets.{mask}
 use Rattle.borrow_analysis.specs.GraphParts.{KeptFrom}

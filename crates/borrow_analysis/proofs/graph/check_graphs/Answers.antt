@@ -1,5 +1,4 @@
-use borrow.Author.Rules.{rules}
-use mathlib.Core.Path.{sym, ◌∙◌}
+use Rattle.std.proofs.Common.{rules, sym, ◌∙◌}
 use Rattle.base.specs.RefusalLaws.{then_goes, refused_by, accepted_by}
 use Rattle.borrow_analysis.specs.Graph.{check_graphs}
 use Rattle.borrow_analysis.specs.GraphLaws.{first_graph}

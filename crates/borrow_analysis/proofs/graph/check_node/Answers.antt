@@ -1,4 +1,4 @@
-use borrow.Author.Tests.{lt-ltb, le-ltb}
+use Rattle.std.proofs.Common.{lt-ltb, le-ltb}
 use Rattle.base.specs.RefusalLaws.{accepted_whole, refused_whole}
 use Rattle.borrow_analysis.proofs.graph.check_node.Goals as goal
 

@@ -1,5 +1,4 @@
-use borrow.Author.Rules.{rules}
-use mathlib.Core.Path.{sym, ◌∙◌}
+use Rattle.std.proofs.Common.{rules, sym, ◌∙◌}
 use Rattle.base.specs.RefusalLaws.{accepted_none, refused_at}
 use Rattle.borrow_analysis.specs.GraphLaws.{moved_whole, moved_fine}
 use Rattle.borrow_analysis.proofs.graph.check_nodes.Goals as goal

@@ -1,6 +1,4 @@
-use native.Mathlib.Omega.{arith}
-use borrow.Author.Rules.{rules}
-use mathlib.Core.Path.{sym, ◌∙◌}
+use Rattle.std.proofs.Common.{arith, rules, sym, ◌∙◌}
 use Rattle.base.specs.RefusalLaws.{found_at, found_none, refused_at, accepted_none}
 use Rattle.borrow_analysis.specs.GraphLaws.{place_small, moved_at, moved_none}
 use Rattle.borrow_analysis.proofs.graph.check_triples.Goals as goal

@@ -1,7 +1,6 @@
-use native.Mathlib.Omega.{arith}
+use Rattle.std.proofs.Common.{arith, rules}
 use Rattle.dataflow_domains.specs.Sets.{mask}
 use Rattle.dataflow_domains.specs.Words.{mask_of}
-use borrow.Author.Rules.{rules}
 use Rattle.borrow_analysis.proofs.graph.live_set.Goals as goal
 
 pub returns : goal.returns

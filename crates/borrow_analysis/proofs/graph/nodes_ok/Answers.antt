@@ -1,8 +1,5 @@
-use mathlib.Core.Path.{ap, ◌∙◌}
-use Prim.Native.Nat.{ℕ, ◌^◌}
-use lib.Dec.{ltb}
+use Rattle.std.proofs.Common.{ap, ◌∙◌, ℕ, ◌^◌, ltb, rules}
 use Rattle.borrow_analysis.specs.GraphLaws.{nodes_many, nodes_few}
-use borrow.Author.Rules.{rules}
 use Rattle.borrow_analysis.proofs.graph.nodes_ok.Goals as goal
 
 pub returns-then-nodes-gt-MAX_LOCALS : goal.returns-then-nodes-gt-MAX_LOCALS

@@ -1,4 +1,4 @@
-use borrow.Author.Rules.{rules}
+use Rattle.std.proofs.Common.{rules}
 use Rattle.borrow_analysis.specs.GraphLaws.{rank_parent, rank_child, rank_edge}
 use Rattle.borrow_analysis.proofs.graph.precedes.Goals as goal
 

@@ -1,7 +1,6 @@
-use mathlib.Core.Path.{ap, ◌∙◌}
+use Rattle.std.proofs.Common.{ap, ◌∙◌, rules}
 use Rattle.base.specs.Refusals.{found_of}
 use Rattle.borrow_analysis.specs.GraphLaws.{length_odd, length_over, length_fine}
-use borrow.Author.Rules.{rules}
 use Rattle.borrow_analysis.proofs.graph.triples_bad.Goals as goal
 
 pub returns-then-n-ne0 : goal.returns-then-n-ne0

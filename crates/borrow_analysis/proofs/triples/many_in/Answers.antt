@@ -1,9 +1,4 @@
-use borrow.Author.Rules.{rules}
-use native.Mathlib.Omega.{arith}
-use mathlib.Core.Logic.{⊎_elim}
-use mathlib.Core.Path.{◌≡◌, refl, ap, ◌∙◌}
-use Prim.Native.Nat.{◌-◌, ◌≤◌}
-use lib.ListN.{length}
+use Rattle.std.proofs.Common.{rules, arith, ⊎_elim, ◌≡◌, refl, ap, ◌∙◌, ◌-◌, ◌≤◌, length}
 use Rattle.base.specs.Lists.{tab}
 use Rattle.base.specs.Sizes.{max_locals}
 use Rattle.dataflow_domains.specs.Sets.{mask}

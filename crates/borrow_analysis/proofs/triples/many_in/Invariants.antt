@@ -1,7 +1,4 @@
-use mathlib.Core.Logic.{⊎_elim}
-use mathlib.Core.Path.{◌≡◌, refl, ap, ◌∙◌}
-use Prim.Native.Nat.{◌-◌, ◌≤◌}
-use lib.ListN.{length}
+use Rattle.std.proofs.Common.{⊎_elim, ◌≡◌, refl, ap, ◌∙◌, ◌-◌, ◌≤◌, length}
 use Rattle.base.specs.Lists.{tab}
 use Rattle.base.specs.Sizes.{max_locals}
 use Rattle.dataflow_domains.specs.Sets.{mask}

@@ -1,13 +1,9 @@
-use mathlib.Core.Path.{◌≡◌, sym, ap, ◌∙◌}
-use Prim.Native.Nat.{ℕ, ◌+◌, ◌-◌, ◌≤◌}
-use native.Mathlib.Nat.{sub-zero}
-use borrow.Author.Tests.{eqb-true}
+use Rattle.std.proofs.Common.{◌≡◌, sym, ap, ◌∙◌, ℕ, ◌+◌, ◌-◌, ◌≤◌, eqb-true, rules, arith}
+use Rattle.std.proofs.Math.Nat.{sub-zero}
 use Rattle.dataflow_domains.specs.Sets.{mask}
 use Rattle.borrow_analysis.specs.Graph.{triples_of}
 use Rattle.borrow_analysis.specs.Borrows.{upward}
 use Rattle.borrow_analysis.specs.UpwardLaws.{upward_fixed, upward_more, upward_end}
-use borrow.Author.Rules.{rules}
-use native.Mathlib.Omega.{arith}
 use Rattle.borrow_info.proofs.upward.above.Goals as goal
 
 pub returns-then-same : goal.returns-then-same

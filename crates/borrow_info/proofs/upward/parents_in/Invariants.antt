@@ -1,6 +1,4 @@
-use mathlib.Core.Logic.{⊎_elim}
-use mathlib.Core.Path.{ap, ◌∙◌}
-use Prim.Native.Nat.{◌-◌, ◌≤◌}
+use Rattle.std.proofs.Common.{⊎_elim, ap, ◌∙◌, ◌-◌, ◌≤◌}
 use Rattle.dataflow_domains.specs.Sets.{mask}
 use Rattle.borrow_analysis.specs.Graph.{triple_at}
 use Rattle.borrow_analysis.specs.GraphParts.{ParentsAdded}

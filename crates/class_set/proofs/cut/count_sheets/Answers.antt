@@ -1,9 +1,4 @@
-use mathlib.Core.Path.{◌≡◌, sym, ap, ◌∙◌}
-use mathlib.Core.Logic.{⊎_elim}
-use Prim.Native.Nat.{◌+◌, ◌-◌, ◌≤◌, ◌<◌}
-use native.Mathlib.Omega.{arith}
-use lib.ListN.{length}
-use borrow.Author.Rules.{rules}
+use Rattle.std.proofs.Common.{◌≡◌, sym, ap, ◌∙◌, ⊎_elim, ◌+◌, ◌-◌, ◌≤◌, ◌<◌, arith, length, rules}
 use Rattle.class_set.specs.ClassSet.{blocks_in, sheets_in}
 use Rattle.class_set.specs.CutLaws.{starts_from, from_start, count_here, starts_pass, starts_end}
 use Rattle.class_set.proofs.cut.count_sheets.Goals as goal

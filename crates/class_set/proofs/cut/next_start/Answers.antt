@@ -1,9 +1,4 @@
-use mathlib.Core.Path.{◌≡◌, sym, ap, ◌∙◌}
-use mathlib.Core.List.{List}
-use Prim.Native.Nat.{ℕ, ◌-◌, ◌≤◌}
-use native.Mathlib.Omega.{arith}
-use lib.ListN.{get_or}
-use borrow.Author.Rules.{rules}
+use Rattle.std.proofs.Common.{◌≡◌, sym, ap, ◌∙◌, List, ℕ, ◌-◌, ◌≤◌, arith, get_or, rules}
 use Rattle.class_set.specs.ClassSet.{blocks_in}
 use Rattle.class_set.specs.CutLaws.{first_from, first_here, starts_pass, starts_end}
 use Rattle.class_set.proofs.cut.next_start.Goals as goal

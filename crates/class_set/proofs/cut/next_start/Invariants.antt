@@ -1,7 +1,4 @@
-use mathlib.Core.Path.{◌≡◌, sym, ap, ◌∙◌}
-use mathlib.Core.List.{List}
-use Prim.Native.Nat.{ℕ, ◌-◌, ◌≤◌}
-use lib.ListN.{get_or}
+use Rattle.std.proofs.Common.{◌≡◌, sym, ap, ◌∙◌, List, ℕ, ◌-◌, ◌≤◌, get_or}
 use Rattle.class_set.specs.ClassSet.{blocks_in}
 use Rattle.class_set.specs.CutLaws.{first_from, first_here, starts_pass, starts_end}
 use Rattle.class_set.proofs.cut.next_start.Given as goal

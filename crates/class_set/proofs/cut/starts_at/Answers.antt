@@ -1,7 +1,4 @@
-use mathlib.Core.Path.{ap}
-use Prim.Native.Nat.{ℕ}
-use lib.Dec.{eqb}
-use borrow.Author.Rules.{rules}
+use Rattle.std.proofs.Common.{ap, ℕ, eqb, rules}
 use Rattle.class_set.specs.ClassSet.{starts_at}
 use Rattle.class_set.proofs.cut.starts_at.Goals as goal
 

@@ -1,5 +1,4 @@
-use mathlib.Core.Path.{refl}
-use borrow.Author.Rules.{rules}
+use Rattle.std.proofs.Common.{refl, rules}
 use Rattle.dataflow_analysis.specs.QueueLaws.{put_list}
 use Rattle.dataflow_analysis.proofs.Cursor.put.Goals as goal
 

@@ -1,8 +1,4 @@
-use mathlib.Core.Path.{sym, ap}
-use mathlib.Core.List.{List}
-use Prim.Native.Nat.{ℕ}
-use native.Mathlib.Omega.{arith}
-use borrow.Author.Rules.{rules}
+use Rattle.std.proofs.Common.{sym, ap, List, ℕ, arith, rules}
 use Rattle.dataflow_analysis.specs.Queue.{taken_of}
 use Rattle.dataflow_analysis.specs.QueueLaws.{list_none, take_first}
 use Rattle.dataflow_analysis.proofs.Cursor.take.Goals as goal

@@ -1,14 +1,9 @@
-use mathlib.Core.Path.{sym, ap, ◌∙◌}
-use Prim.Native.Nat.{ℕ, ◌^◌, ◌/◌, ◌%◌}
+use Rattle.std.proofs.Common.{sym, ap, ◌∙◌, ℕ, ◌^◌, ◌/◌, ◌%◌, eqb, get_or, arith, rules}
 use Rattle.dataflow_domains.specs.Mask.{holds, bit}
 use lib.Bits.{and_mask}
-use lib.Dec.{eqb}
 use Rattle.dataflow_domains.specs.Sets.{mask}
 use Rattle.dataflow_domains.specs.SetLaws.{Array, array}
-use lib.ListN.{get_or}
 use Rattle.dataflow_domains.specs.WordLaws.{mask_holds}
-use native.Mathlib.Omega.{arith}
-use borrow.Author.Rules.{rules}
 use Rattle.dataflow_domains.proofs.LiveVarState.has.Goals as goal
 
 pub returns : goal.returns

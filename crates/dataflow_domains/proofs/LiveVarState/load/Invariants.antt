@@ -1,5 +1,4 @@
-use mathlib.Core.Path.{refl, ap}
-use Prim.Native.Nat.{◌-◌, ◌*◌}
+use Rattle.std.proofs.Common.{refl, ap, ◌-◌, ◌*◌}
 use Rattle.dataflow_domains.specs.Sets.{mask, stored_set}
 use Rattle.base.specs.Sizes.{set_words}
 use Rattle.dataflow_domains.specs.Words.{mask_of, mask_at}

@@ -1,8 +1,6 @@
-use mathlib.Core.Path.{◌≡◌, ◌∙◌}
+use Rattle.std.proofs.Common.{◌≡◌, ◌∙◌, get_or, ◌+◌, ◌-◌}
 use Rattle.dataflow_domains.specs.Sets.{mask}
 use Rattle.dataflow_domains.specs.ByteWords.{word_at, bytes_mask}
-use lib.ListN.{get_or}
-use Prim.Native.Nat.{◌+◌, ◌-◌}
 use Rattle.base.specs.Sizes.{set_words}
 use Rattle.base.specs.CopyLaws.{Copied, copied_more}
 use Rattle.dataflow_domains.specs.Words.{masks_of}

@@ -1,16 +1,11 @@
-use mathlib.Core.Path.{◌≡◌, refl, sym, ap, ◌∙◌}
-use Prim.Native.Nat.{ℕ, ◌+◌, ◌-◌, ◌*◌, ◌≤◌}
+use Rattle.std.proofs.Common.{◌≡◌, refl, sym, ap, ◌∙◌, ℕ, ◌+◌, ◌-◌, ◌*◌, ◌≤◌, get_or, take, take_all, rules, arith}
 use Rattle.dataflow_domains.specs.Sets.{mask}
 use Rattle.base.specs.Sizes.{set_words}
 use Rattle.dataflow_domains.specs.SetLaws.{Array, array}
-use lib.ListN.{get_or, take}
 use lib.Count.{ones, ones-le}
-use lib.Seq.{take_all}
 use Rattle.dataflow_domains.specs.Words.{ones_of}
 use Rattle.dataflow_domains.specs.WordLaws.{mask_ones}
 use Rattle.dataflow_domains.specs.LoopLaws.{ones_more}
-use borrow.Author.Rules.{rules}
-use native.Mathlib.Omega.{arith}
 use Rattle.dataflow_domains.proofs.LiveVarState.ones.Goals as goal
 
 pub loop-j-init : goal.loop-j-init

@@ -1,10 +1,8 @@
-use Prim.Native.Nat.{◌-◌, ◌≤◌}
+use Rattle.std.proofs.Common.{◌-◌, ◌≤◌, rules, arith}
 use Rattle.dataflow_domains.specs.Sets.{mask}
 use Rattle.base.specs.Sizes.{set_words}
 use Rattle.dataflow_domains.specs.SetLaws.{Array, array, same_by}
 use Rattle.dataflow_domains.specs.LoopLaws.{Differ, differ_none, differ_more}
-use borrow.Author.Rules.{rules}
-use native.Mathlib.Omega.{arith}
 use Rattle.dataflow_domains.proofs.LiveVarState.same.Goals as goal
 
 pub loop-j-preserved : goal.loop-j-preserved

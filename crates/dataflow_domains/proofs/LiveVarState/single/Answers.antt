@@ -1,13 +1,8 @@
-use mathlib.Core.Path.{◌≡◌, refl, sym, ap, ◌∙◌, subst}
-use Prim.Native.Nat.{ℕ, ◌+◌, ◌-◌}
-use lib.ListN.{get_or, set}
-use native.Mathlib.Nat.{zero-add}
+use Rattle.std.proofs.Common.{◌≡◌, refl, sym, ap, ◌∙◌, subst, ℕ, ◌+◌, ◌-◌, get_or, set, zero-add, rules, arith}
 use Rattle.dataflow_domains.specs.Sets.{mask, lone}
 use Rattle.base.specs.Sizes.{set_words}
 use Rattle.dataflow_domains.specs.SetLaws.{lone_mask}
 use Rattle.base.specs.CopyLaws.{Copied, copied_none, copied_more}
-use borrow.Author.Rules.{rules}
-use native.Mathlib.Omega.{arith}
 use Rattle.dataflow_domains.proofs.LiveVarState.single.Goals as goal
 
 pub returns : goal.returns

@@ -1,15 +1,9 @@
 use Rattle.dataflow_domains.specs.Sets.{mask, sets_of}
-use mathlib.Core.Path.{◌≡◌, refl, sym, ap, ◌∙◌}
-use Prim.Native.Nat.{ℕ, ◌+◌, ◌-◌, ◌*◌, ◌≤◌}
+use Rattle.std.proofs.Common.{◌≡◌, refl, sym, ap, ◌∙◌, ℕ, ◌+◌, ◌-◌, ◌*◌, ◌≤◌, List, length, get_or, set, length-set, add-one, rules, arith}
 use Rattle.base.specs.Sizes.{set_words}
 use Rattle.dataflow_domains.specs.SetLaws.{Array, array}
-use mathlib.Core.List.{List}
-use lib.ListN.{length, get_or, set, length-set}
-use lib.Seq.{paste, paste-zero, paste-suc}
-use native.Mathlib.Numerals.{add-one}
+use Rattle.std.proofs.Math.Seq.{paste, paste-zero, paste-suc}
 use Rattle.dataflow_domains.specs.SliceLaws.{masks_put}
-use borrow.Author.Rules.{rules}
-use native.Mathlib.Omega.{arith}
 use Rattle.dataflow_domains.proofs.LiveVarState.store.Goals as goal
 
 pub loop-j-preserved : goal.loop-j-preserved

@@ -1,12 +1,8 @@
-use mathlib.Core.Path.{◌≡◌, refl, ap, ◌∙◌}
-use mathlib.Core.List.{◌++◌}
-use lib.Seq.{length-take-le}
+use Rattle.std.proofs.Common.{◌≡◌, refl, ap, ◌∙◌, ◌++◌, length-take-le, ℕ, ◌+◌, ◌-◌, ◌*◌, ◌≤◌, length, get_or, take, drop}
 use Rattle.base.specs.Bytes.{bytes_of}
 use Rattle.base.specs.WriteLaws.{part_back}
 use Rattle.dataflow_domains.specs.Sets.{mask}
 use Rattle.dataflow_domains.specs.ByteWords.{each_more, each_length, all_bytes}
-use Prim.Native.Nat.{ℕ, ◌+◌, ◌-◌, ◌*◌, ◌≤◌}
-use lib.ListN.{length, get_or, take, drop}
 use Rattle.base.specs.Sizes.{set_words}
 use Rattle.dataflow_domains.specs.Words.{bytes_each}
 use Rattle.dataflow_domains.specs.SetLaws.{Array, array}

@@ -1,10 +1,7 @@
-use mathlib.Core.Path.{◌≡◌, refl, sym, ap, ◌∙◌, subst}
-use Prim.Native.Nat.{ℕ, ◌-◌, ◌<◌, ◌^◌}
+use Rattle.std.proofs.Common.{◌≡◌, refl, sym, ap, ◌∙◌, subst, ℕ, ◌-◌, ◌<◌, ◌^◌, List, set}
 use Rattle.dataflow_domains.specs.Sets.{mask}
 use Rattle.base.specs.Sizes.{set_words, max_locals}
 use Rattle.dataflow_domains.specs.SetLaws.{Array, array, array_as, Zeros, zeros_more, last_word, taken_at}
-use mathlib.Core.List.{List}
-use lib.ListN.{set}
 use Rattle.dataflow_domains.specs.Mask.{minus}
 use Rattle.dataflow_domains.specs.Words.{mask_of}
 use Rattle.dataflow_domains.specs.Members.{Lowest}

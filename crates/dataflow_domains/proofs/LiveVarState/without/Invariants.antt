@@ -1,4 +1,4 @@
-use Prim.Native.Nat.{◌-◌, ◌≤◌}
+use Rattle.std.proofs.Common.{◌-◌, ◌≤◌}
 use Rattle.dataflow_domains.specs.Mask.{minus}
 use Rattle.dataflow_domains.specs.Sets.{mask}
 use Rattle.base.specs.Sizes.{set_words}

@@ -1,7 +1,5 @@
-use mathlib.Core.Path.{sym, ◌∙◌}
+use Rattle.std.proofs.Common.{sym, ◌∙◌, rules, arith}
 use Rattle.eliminate_unused_vars.specs.NamesLaws.{gives_plain, gives_flagged}
-use borrow.Author.Rules.{rules}
-use native.Mathlib.Omega.{arith}
 use Rattle.eliminate_unused_vars.proofs.names.name_abort.Goals as goal
 
 pub returns : goal.returns

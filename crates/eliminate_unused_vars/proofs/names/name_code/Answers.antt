@@ -1,7 +1,4 @@
-use mathlib.Core.Path.{◌≡◌, refl, sym, ◌∙◌, subst}
-use Prim.Native.Nat.{◌≤◌, ◌-◌}
-use lib.ListN.{length, take}
-use lib.Seq.{take_all}
+use Rattle.std.proofs.Common.{◌≡◌, refl, sym, ◌∙◌, subst, ◌≤◌, ◌-◌, length, take, take_all, rules, arith}
 use Rattle.base.specs.Lists.{gather}
 use Rattle.base.specs.Numbering.{Gives}
 use Rattle.base.specs.NumberingLaws.{give_nothing}
@@ -12,8 +9,6 @@ use Rattle.livevar_analysis.specs.InputLaws.{code_at, in_range, record_inside}
 use Rattle.eliminate_unused_vars.specs.Remap.{mentions}
 use Rattle.eliminate_unused_vars.specs.Names.{first_name}
 use Rattle.eliminate_unused_vars.specs.NamesLaws.{same_room, code_next}
-use borrow.Author.Rules.{rules}
-use native.Mathlib.Omega.{arith}
 use Rattle.eliminate_unused_vars.proofs.names.name_code.Goals as goal
 
 pub loop-k-init : goal.loop-k-init

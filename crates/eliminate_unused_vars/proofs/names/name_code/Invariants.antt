@@ -1,7 +1,4 @@
-use mathlib.Core.Path.{◌≡◌, refl, sym, ◌∙◌, subst}
-use Prim.Native.Nat.{◌≤◌, ◌-◌}
-use lib.ListN.{length, take}
-use lib.Seq.{take_all}
+use Rattle.std.proofs.Common.{◌≡◌, refl, sym, ◌∙◌, subst, ◌≤◌, ◌-◌, length, take, take_all}
 use Rattle.base.specs.Lists.{gather}
 use Rattle.base.specs.Numbering.{Gives}
 use Rattle.base.specs.NumberingLaws.{give_nothing}

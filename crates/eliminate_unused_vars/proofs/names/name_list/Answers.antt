@@ -1,12 +1,8 @@
-use mathlib.Core.Path.{◌≡◌, refl, ◌∙◌}
-use Prim.Native.Nat.{◌≤◌, ◌-◌}
-use lib.ListN.{length, take}
+use Rattle.std.proofs.Common.{◌≡◌, refl, ◌∙◌, ◌≤◌, ◌-◌, length, take, rules, arith}
 use Rattle.base.specs.Numbering.{Gives}
 use Rattle.base.specs.NumberingLaws.{give_nothing}
 use Rattle.eliminate_unused_vars.specs.Names.{first_name}
 use Rattle.eliminate_unused_vars.specs.NamesLaws.{place_next}
-use borrow.Author.Rules.{rules}
-use native.Mathlib.Omega.{arith}
 use Rattle.eliminate_unused_vars.proofs.names.name_list.Goals as goal
 
 pub loop-i-init : goal.loop-i-init

@@ -1,8 +1,6 @@
-use mathlib.Core.Path.{◌∙◌}
+use Rattle.std.proofs.Common.{◌∙◌, rules, arith}
 use Rattle.sheet.specs.ValidLaws.{accepted_valid}
 use Rattle.eliminate_unused_vars.specs.NamesLaws.{same_room, locals_named}
-use borrow.Author.Rules.{rules}
-use native.Mathlib.Omega.{arith}
 use Rattle.eliminate_unused_vars.proofs.names.name_locals.Goals as goal
 
 pub name_users-c-requires : goal.name_users-c-requires

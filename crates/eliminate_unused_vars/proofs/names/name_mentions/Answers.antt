@@ -1,7 +1,6 @@
-use mathlib.Core.Path.{◌∙◌}
+use Rattle.std.proofs.Common.{◌∙◌, rules}
 use Rattle.stackless_bytecode.specs.Kinds.{dsts_of, srcs_of}
 use Rattle.eliminate_unused_vars.specs.NamesLaws.{same_room, gives_mentions}
-use borrow.Author.Rules.{rules}
 use Rattle.eliminate_unused_vars.proofs.names.name_mentions.Goals as goal
 
 pub returns : goal.returns

@@ -1,6 +1,4 @@
-use mathlib.Core.Path.{◌≡◌, refl, ◌∙◌}
-use Prim.Native.Nat.{◌≤◌, ◌-◌}
-use lib.ListN.{length}
+use Rattle.std.proofs.Common.{◌≡◌, refl, ◌∙◌, ◌≤◌, ◌-◌, length}
 use Rattle.base.specs.Lists.{tab}
 use Rattle.base.specs.Numbering.{Gives}
 use Rattle.base.specs.NumberingLaws.{give_start, give_then}

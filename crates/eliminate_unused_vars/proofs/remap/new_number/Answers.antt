@@ -1,9 +1,5 @@
-use mathlib.Core.Path.{ap}
-use Prim.Native.Nat.{ℕ}
-use lib.ListN.{get_or}
+use Rattle.std.proofs.Common.{ap, ℕ, get_or, arith, rules}
 use Rattle.eliminate_unused_vars.specs.Names.{name_in}
-use native.Mathlib.Omega.{arith}
-use borrow.Author.Rules.{rules}
 use Rattle.eliminate_unused_vars.proofs.remap.new_number.Goals as goal
 
 pub returns : goal.returns

@@ -1,6 +1,5 @@
-use mathlib.Core.Path.{sym, ◌∙◌}
+use Rattle.std.proofs.Common.{sym, ◌∙◌, rules}
 use Rattle.eliminate_unused_vars.specs.RemapCodeLaws.{remapped_flagged, remapped_plain}
-use borrow.Author.Rules.{rules}
 use Rattle.eliminate_unused_vars.proofs.remap.remap_all_vars.Goals as goal
 
 pub returns-then-is_flagged : goal.returns-then-is_flagged

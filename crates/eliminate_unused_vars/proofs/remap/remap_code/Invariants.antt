@@ -1,6 +1,4 @@
-use mathlib.Core.Path.{◌≡◌, refl}
-use Prim.Native.Nat.{◌+◌, ◌*◌, ◌-◌, ◌≤◌, ◌<◌}
-use lib.ListN.{length, take}
+use Rattle.std.proofs.Common.{◌≡◌, refl, ◌+◌, ◌*◌, ◌-◌, ◌≤◌, ◌<◌, length, take}
 use Rattle.base.specs.Sizes.{record_bytes, max_instructions}
 use Rattle.sheet.specs.Layout.{count_of}
 use Rattle.sheet.specs.ValidLaws.{accepted_valid}

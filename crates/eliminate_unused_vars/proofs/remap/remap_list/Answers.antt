@@ -1,8 +1,5 @@
-use mathlib.Core.Path.{◌≡◌, refl}
-use Prim.Native.Nat.{◌-◌, ◌≤◌}
+use Rattle.std.proofs.Common.{◌≡◌, refl, ◌-◌, ◌≤◌, rules, arith}
 use Rattle.eliminate_unused_vars.specs.RemapCodeLaws.{renamed, renamed_more, renamed_all}
-use borrow.Author.Rules.{rules}
-use native.Mathlib.Omega.{arith}
 use Rattle.eliminate_unused_vars.proofs.remap.remap_list.Goals as goal
 
 pub returns : goal.returns

@@ -1,5 +1,4 @@
-use mathlib.Core.Path.{◌≡◌, refl}
-use Prim.Native.Nat.{◌-◌, ◌≤◌}
+use Rattle.std.proofs.Common.{◌≡◌, refl, ◌-◌, ◌≤◌}
 use Rattle.eliminate_unused_vars.specs.RemapCodeLaws.{renamed, renamed_more, renamed_all}
 use Rattle.eliminate_unused_vars.proofs.remap.remap_list.Given as goal
 

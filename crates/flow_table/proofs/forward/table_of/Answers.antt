@@ -1,9 +1,4 @@
-use mathlib.Core.Path.{refl, sym, ◌∙◌}
-use Prim.Native.Nat.{◌*◌, ◌≤◌}
-use native.Mathlib.Omega.{arith}
-use borrow.Author.Rules.{rules}
-use borrow.Author.Tests.{ltb-false, ltb-true}
-use lib.ListN.{length}
+use Rattle.std.proofs.Common.{refl, sym, ◌∙◌, ◌*◌, ◌≤◌, arith, rules, ltb-false, ltb-true, length}
 use Rattle.base.specs.ListLaws.{copies_at}
 use Rattle.base.specs.ReplyLaws.{refuses}
 use Rattle.base.specs.Sizes.{row_numbers, max_instructions}

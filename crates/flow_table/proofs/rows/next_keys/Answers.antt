@@ -1,5 +1,4 @@
-use mathlib.Core.Path.{sym, ◌∙◌}
-use borrow.Author.Rules.{rules}
+use Rattle.std.proofs.Common.{sym, ◌∙◌, rules}
 use Rattle.stackless_control_flow_graph.specs.RowLaws.{next_exit, next_other}
 use Rattle.flow_table.proofs.rows.next_keys.Goals as goal
 

@@ -1,7 +1,5 @@
-use lib.ListN.{length-set}
+use Rattle.std.proofs.Common.{length-set, arith, rules}
 use Rattle.stackless_control_flow_graph.specs.RowLaws.{row_put}
-use native.Mathlib.Omega.{arith}
-use borrow.Author.Rules.{rules}
 use Rattle.flow_table.proofs.rows.write_row.Goals as goal
 
 pub returns : goal.returns

@@ -1,15 +1,9 @@
-use lib.Seq.{length-take-le}
-use Prim.Native.Nat.{◌+◌, ◌-◌, ◌*◌, ◌≤◌}
-use mathlib.Core.List.{◌++◌}
-use mathlib.Core.Path.{◌≡◌, refl, ap, ◌∙◌}
-use lib.ListN.{length, take, drop, length-drop}
+use Rattle.std.proofs.Common.{length-take-le, ◌+◌, ◌-◌, ◌*◌, ◌≤◌, ◌++◌, ◌≡◌, refl, ap, ◌∙◌, length, take, drop, length-drop, rules, arith}
 use Rattle.base.specs.Lists.{gather}
 use Rattle.base.specs.Sizes.{row_numbers}
 use Rattle.stackless_control_flow_graph.specs.Arrays.{row_in}
 use Rattle.stackless_control_flow_graph.specs.KeyLaws.{block_lower, block_near}
 use Rattle.stackless_control_flow_graph.specs.RowLaws.{rows_kept, rows_more}
-use borrow.Author.Rules.{rules}
-use native.Mathlib.Omega.{arith}
 use Rattle.flow_table.proofs.rows.write_rows.Goals as goal
 
 pub loop-b-init : goal.loop-b-init

@@ -1,8 +1,4 @@
-use lib.Seq.{length-take-le}
-use Prim.Native.Nat.{◌+◌, ◌-◌, ◌*◌, ◌≤◌}
-use mathlib.Core.List.{◌++◌}
-use mathlib.Core.Path.{◌≡◌, refl, ap, ◌∙◌}
-use lib.ListN.{length, take, drop, length-drop}
+use Rattle.std.proofs.Common.{length-take-le, ◌+◌, ◌-◌, ◌*◌, ◌≤◌, ◌++◌, ◌≡◌, refl, ap, ◌∙◌, length, take, drop, length-drop}
 use Rattle.base.specs.Lists.{gather}
 use Rattle.base.specs.Sizes.{row_numbers}
 use Rattle.stackless_control_flow_graph.specs.Arrays.{row_in}

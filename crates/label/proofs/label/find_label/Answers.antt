@@ -1,6 +1,4 @@
-use mathlib.Core.Path.{◌≡◌, sym, ap, ◌∙◌}
-use mathlib.Core.Bool.{not}
-use Prim.Native.Nat.{◌-◌}
+use Rattle.std.proofs.Common.{◌≡◌, sym, ap, ◌∙◌, not, ◌-◌, rules}
 use Rattle.base.specs.Lists.{has, first_bad}
 use Rattle.base.specs.SearchLaws.{bad_start, bad_more, bad_stop, bad_end}
 use Rattle.base.specs.Refusals.{found_of}
@@ -8,7 +6,6 @@ use Rattle.stackless_bytecode.specs.declared.Bytecode.{Bytecode}
 use Rattle.stackless_bytecode.specs.Kinds.{at, label_of}
 use Rattle.sheet.specs.Layout.{code_of}
 use Rattle.sheet.specs.Shaped.{record_inside, code_at}
-use borrow.Author.Rules.{rules}
 use Rattle.label.proofs.label.find_label.Goals as goal
 
 pub instruction_at-requires : goal.instruction_at-requires

@@ -1,7 +1,5 @@
-use mathlib.Core.Path.{sym, ap, ◌∙◌}
-use lib.Dec.{eqb}
+use Rattle.std.proofs.Common.{sym, ap, ◌∙◌, eqb, rules}
 use Rattle.label.specs.LabelLaws.{label_has, other_has}
-use borrow.Author.Rules.{rules}
 use Rattle.label.proofs.label.is_label.Goals as goal
 
 pub returns-then-is_label : goal.returns-then-is_label

@@ -1,14 +1,10 @@
-use mathlib.Core.Path.{◌≡◌, sym, ap, ◌∙◌}
-use Prim.Native.Nat.{◌-◌}
-use lib.ListN.{drop}
+use Rattle.std.proofs.Common.{◌≡◌, sym, ap, ◌∙◌, ◌-◌, drop, rules, arith}
 use Rattle.base.specs.Lists.{gather, has}
 use Rattle.stackless_bytecode.specs.declared.Bytecode.{Bytecode}
 use Rattle.stackless_bytecode.specs.Kinds.{branch_dests}
 use Rattle.sheet.specs.Layout.{code_of}
 use Rattle.sheet.specs.Shaped.{record_inside, code_at, code_size}
 use Rattle.label.specs.LabelLaws.{names_here, names_on, names_end}
-use borrow.Author.Rules.{rules}
-use native.Mathlib.Omega.{arith}
 use Rattle.label.proofs.label.is_named.Goals as goal
 
 pub instruction_at-requires : goal.instruction_at-requires

@@ -1,6 +1,4 @@
-use mathlib.Core.Path.{sym, ap, ◌∙◌, subst}
-use Prim.Native.Nat.{ℕ}
-use native.Mathlib.Omega.{arith}
+use Rattle.std.proofs.Common.{sym, ap, ◌∙◌, subst, ℕ, arith, rules}
 use Rattle.base.specs.Refusals.{verdict_of}
 use Rattle.base.specs.RefusalLaws.{accepted_by}
 use Rattle.base.specs.ReplyLaws.{refused_number}
@@ -10,7 +8,6 @@ use Rattle.sheet.specs.ValidLaws.{accepted_valid}
 use Rattle.stackless_bytecode.specs.Labels.{offset_of}
 use Rattle.label.specs.LabelCall.{label_value, LabelMeaning}
 use Rattle.label.specs.LabelLaws.{offset_few, label_meaning, label_refused, label_done}
-use borrow.Author.Rules.{rules}
 use Rattle.label.proofs.label.label.Goals as goal
 
 pub u16_at-n-requires : goal.u16_at-n-requires

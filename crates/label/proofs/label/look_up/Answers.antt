@@ -1,8 +1,5 @@
-use mathlib.Core.Path.{sym, ◌∙◌}
-use mathlib.Core.Bool.{true, false}
-use native.Mathlib.Omega.{arith}
+use Rattle.std.proofs.Common.{sym, ◌∙◌, true, false, arith, rules}
 use Rattle.label.specs.LabelLaws.{look_missing, look_low, look_found}
-use borrow.Author.Rules.{rules}
 use Rattle.label.proofs.label.look_up.Goals as goal
 
 pub is_named-requires : goal.is_named-requires

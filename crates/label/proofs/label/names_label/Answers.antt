@@ -1,9 +1,5 @@
-use mathlib.Core.Path.{ap₂, ◌∙◌}
-use mathlib.Core.Bool.{◌||◌}
-use Prim.Native.Nat.{ℕ}
-use lib.Dec.{eqb}
+use Rattle.std.proofs.Common.{ap₂, ◌∙◌, ◌||◌, ℕ, eqb, rules}
 use Rattle.label.specs.LabelLaws.{names_has}
-use borrow.Author.Rules.{rules}
 use Rattle.label.proofs.label.names_label.Goals as goal
 
 pub returns : goal.returns

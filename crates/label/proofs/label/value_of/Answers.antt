@@ -1,8 +1,6 @@
-use mathlib.Core.Path.{sym, ap}
-use native.Mathlib.Omega.{arith}
+use Rattle.std.proofs.Common.{sym, ap, arith, rules}
 use Rattle.stackless_bytecode.specs.Labels.{offset_of}
 use Rattle.label.specs.LabelCall.{label_value}
-use borrow.Author.Rules.{rules}
 use Rattle.label.proofs.label.value_of.Goals as goal
 
 pub returns-in-Named : goal.returns-in-Named

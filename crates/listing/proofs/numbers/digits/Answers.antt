@@ -1,10 +1,6 @@
-use mathlib.Core.Path.{◌≡◌, ap}
-use Prim.Native.Nat.{◌+◌, ◌≤◌}
-use lib.ListN.{length}
+use Rattle.std.proofs.Common.{◌≡◌, ap, ◌+◌, ◌≤◌, length, rules, arith}
 use Rattle.listing.specs.Words.{decimal}
 use Rattle.listing.specs.NumberLaws.{decimal_small, decimal_short, digit_less}
-use borrow.Author.Rules.{rules}
-use native.Mathlib.Omega.{arith}
 use Rattle.listing.proofs.numbers.digits.Goals as goal
 
 pub overflow_add-n : goal.overflow_add-n

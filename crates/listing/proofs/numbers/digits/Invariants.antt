@@ -1,6 +1,4 @@
-use mathlib.Core.Path.{◌≡◌, ap}
-use Prim.Native.Nat.{◌+◌, ◌≤◌}
-use lib.ListN.{length}
+use Rattle.std.proofs.Common.{◌≡◌, ap, ◌+◌, ◌≤◌, length}
 use Rattle.listing.specs.Words.{decimal}
 use Rattle.listing.specs.NumberLaws.{decimal_small, decimal_short, digit_less}
 use Rattle.listing.proofs.numbers.digits.Given as goal

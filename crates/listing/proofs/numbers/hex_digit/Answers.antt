@@ -1,6 +1,5 @@
-use borrow.Author.Tests.{lt-ltb, le-ltb}
+use Rattle.std.proofs.Common.{lt-ltb, le-ltb, rules}
 use Rattle.listing.specs.Words.{hex_digit}
-use borrow.Author.Rules.{rules}
 use Rattle.listing.proofs.numbers.hex_digit.Goals as goal
 
 pub returns-then-x-lt10 : goal.returns-then-x-lt10

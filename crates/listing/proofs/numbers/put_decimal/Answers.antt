@@ -1,11 +1,7 @@
-use mathlib.Core.Path.{sym, ap, subst}
-use Prim.Native.Nat.{ℕ, ◌+◌}
-use lib.ListN.{length, set, length-append, length-set}
+use Rattle.std.proofs.Common.{sym, ap, subst, ℕ, ◌+◌, length, set, length-append, length-set, rules, arith}
 use Rattle.listing.specs.Words.{decimal}
 use Rattle.base.specs.Put.{Put}
 use Rattle.listing.specs.NumberLaws.{digit_less, decimal_small, Ending, ending_none, ending_more, ending_all}
-use borrow.Author.Rules.{rules}
-use native.Mathlib.Omega.{arith}
 use Rattle.listing.proofs.numbers.put_decimal.Goals as goal
 
 pub overflow_sub-i : goal.overflow_sub-i

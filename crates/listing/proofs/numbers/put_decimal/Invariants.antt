@@ -1,6 +1,4 @@
-use mathlib.Core.Path.{sym, ap, subst}
-use Prim.Native.Nat.{ℕ, ◌+◌}
-use lib.ListN.{length, set, length-append, length-set}
+use Rattle.std.proofs.Common.{sym, ap, subst, ℕ, ◌+◌, length, set, length-append, length-set}
 use Rattle.listing.specs.Words.{decimal}
 use Rattle.base.specs.Put.{Put}
 use Rattle.listing.specs.NumberLaws.{digit_less, decimal_small, Ending, ending_none, ending_more, ending_all}

@@ -1,14 +1,10 @@
-use mathlib.Core.Path.{◌≡◌, refl, sym, ap, ◌∙◌}
-use Prim.Native.Nat.{◌+◌, ◌-◌, ◌*◌, ◌≤◌}
-use lib.ListN.{length, length-set}
-use lib.Seq.{paste, paste-zero}
+use Rattle.std.proofs.Common.{◌≡◌, refl, sym, ap, ◌∙◌, ◌+◌, ◌-◌, ◌*◌, ◌≤◌, length, length-set, rules, arith}
+use Rattle.std.proofs.Math.Seq.{paste, paste-zero}
 use Rattle.base.specs.Bytes.{number, Bytes}
 use Rattle.base.specs.Sizes.{set_bytes}
 use Rattle.listing.specs.Words.{hex}
 use Rattle.base.specs.PutLaws.{put_paste, paste_two}
 use Rattle.listing.specs.NumberLaws.{hex_length, hex_high, hex_low}
-use borrow.Author.Rules.{rules}
-use native.Mathlib.Omega.{arith}
 use Rattle.listing.proofs.numbers.put_hex.Goals as goal
 
 pub loop-i-preserved : goal.loop-i-preserved

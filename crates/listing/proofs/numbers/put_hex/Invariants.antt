@@ -1,7 +1,5 @@
-use mathlib.Core.Path.{◌≡◌, refl, sym, ap, ◌∙◌}
-use Prim.Native.Nat.{◌+◌, ◌-◌, ◌*◌, ◌≤◌}
-use lib.ListN.{length, length-set}
-use lib.Seq.{paste, paste-zero}
+use Rattle.std.proofs.Common.{◌≡◌, refl, sym, ap, ◌∙◌, ◌+◌, ◌-◌, ◌*◌, ◌≤◌, length, length-set}
+use Rattle.std.proofs.Math.Seq.{paste, paste-zero}
 use Rattle.base.specs.Bytes.{number, Bytes}
 use Rattle.base.specs.Sizes.{set_bytes}
 use Rattle.listing.specs.Words.{hex}

@@ -1,5 +1,4 @@
-use borrow.Author.Rules.{rules}
-use native.Mathlib.Omega.{arith}
+use Rattle.std.proofs.Common.{rules, arith}
 use Rattle.listing.specs.OutputLaws.{wrote_one, wrote_full}
 use Rattle.listing.proofs.output.put_byte.Goals as goal
 

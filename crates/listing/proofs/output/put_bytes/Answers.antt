@@ -1,7 +1,4 @@
-use borrow.Author.Rules.{rules}
-use native.Mathlib.Omega.{arith}
-use Prim.Native.Nat.{◌-◌, ◌≤◌}
-use lib.ListN.{length, drop}
+use Rattle.std.proofs.Common.{rules, arith, ◌-◌, ◌≤◌, length, drop}
 use Rattle.listing.specs.OutputLaws.{Goes, goes_start, goes_as, goes_on, goes_end, goes_length, drop_one, drop_past}
 use Rattle.listing.proofs.output.put_bytes.Goals as goal
 

@@ -1,5 +1,4 @@
-use borrow.Author.Rules.{rules}
-use native.Mathlib.Omega.{arith}
+use Rattle.std.proofs.Common.{rules, arith}
 use Rattle.listing.specs.NumberLaws.{decimal_short}
 use Rattle.listing.specs.OutputLaws.{wrote_as, put_digits, digits_long}
 use Rattle.listing.proofs.output.put_decimal.Goals as goal

@@ -1,12 +1,9 @@
-use borrow.Author.Rules.{rules}
-use native.Mathlib.Omega.{arith}
-use Prim.Native.Nat.{◌-◌, ◌≤◌}
+use Rattle.std.proofs.Common.{rules, arith, ◌-◌, ◌≤◌, sym}
 use Rattle.livevar_analysis.specs.Analysis.{infos_of}
 use Rattle.listing.specs.Lines.{lines}
 use Rattle.listing.specs.Output.{Wrote}
 use Rattle.listing.specs.OutputLaws.{wrote_as, wrote_none, wrote_then, wrote_length}
 use Rattle.listing.specs.TextLaws.{lines_none, lines_next, text_is}
-use mathlib.Core.Path.{sym}
 use Rattle.listing.proofs.text.put_live.Goals as goal
 
 pub loop-k-init : goal.loop-k-init

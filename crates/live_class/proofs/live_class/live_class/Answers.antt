@@ -1,7 +1,4 @@
-use mathlib.Core.Path.{sym, ap, ◌∙◌}
-use native.Mathlib.Omega.{arith}
-use borrow.Author.Rules.{rules}
-use lib.ListN.{length}
+use Rattle.std.proofs.Common.{sym, ap, ◌∙◌, arith, rules, length}
 use Rattle.base.specs.Refusals.{verdict_of}
 use Rattle.base.specs.RefusalLaws.{accepted_by}
 use Rattle.base.specs.ReplyLaws.{refuses, refused_number}

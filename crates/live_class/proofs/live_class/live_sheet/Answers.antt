@@ -1,7 +1,4 @@
-use mathlib.Core.Path.{sym, ap, ap₂, ◌∙◌}
-use mathlib.Core.List.{[], ◌∷◌}
-use Prim.Native.Nat.{ℕ}
-use borrow.Author.Rules.{rules}
+use Rattle.std.proofs.Common.{sym, ap, ap₂, ◌∙◌, [], ◌∷◌, ℕ, rules}
 use Rattle.base.specs.Refusals.{answer_of}
 use Rattle.base.specs.ReplyLaws.{refused_number}
 use Rattle.class_set.specs.ClassLaws.{numbers_accepted, numbers_refused}

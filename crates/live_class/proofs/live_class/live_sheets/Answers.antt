@@ -1,8 +1,4 @@
-use mathlib.Core.Path.{◌≡◌, subst}
-use Prim.Native.Nat.{◌-◌, ◌≤◌, ◌<◌}
-use native.Mathlib.Omega.{arith}
-use lib.ListN.{length}
-use borrow.Author.Rules.{rules}
+use Rattle.std.proofs.Common.{◌≡◌, subst, ◌-◌, ◌≤◌, ◌<◌, arith, length, rules}
 use Rattle.base.specs.Sizes.{answer_numbers}
 use Rattle.class_set.specs.ClassSet.{blocks_in, sheets_in}
 use Rattle.class_set.specs.CutLaws.{start_inside}

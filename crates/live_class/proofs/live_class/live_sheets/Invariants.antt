@@ -1,6 +1,4 @@
-use mathlib.Core.Path.{◌≡◌, subst}
-use Prim.Native.Nat.{◌-◌, ◌≤◌, ◌<◌}
-use lib.ListN.{length}
+use Rattle.std.proofs.Common.{◌≡◌, subst, ◌-◌, ◌≤◌, ◌<◌, length}
 use Rattle.base.specs.Sizes.{answer_numbers}
 use Rattle.class_set.specs.ClassSet.{blocks_in, sheets_in}
 use Rattle.class_set.specs.CutLaws.{start_inside}

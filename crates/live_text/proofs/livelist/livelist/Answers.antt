@@ -1,7 +1,4 @@
-use native.Mathlib.Omega.{arith}
-use borrow.Author.Rules.{rules}
-use mathlib.Core.Path.{sym}
-use lib.ListN.{length}
+use Rattle.std.proofs.Common.{arith, rules, sym, length}
 use Rattle.base.specs.ReplyLaws.{refuses, done_result, done_output}
 use Rattle.listing.specs.OutputLaws.{wrote_whole}
 use Rattle.listing.specs.TextLaws.{livelist_short, livelist_refuses, livelist_done}

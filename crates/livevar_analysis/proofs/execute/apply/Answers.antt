@@ -1,8 +1,5 @@
-use mathlib.Core.Path.{sym, ap, ◌∙◌}
-use mathlib.Core.Bool.{not}
-use mathlib.Core.Logic.{inl, inr, ⊎_elim}
+use Rattle.std.proofs.Common.{sym, ap, ◌∙◌, not, inl, inr, ⊎_elim, rules}
 use Rattle.livevar_analysis.specs.EngineLaws.{rule_kept, rule_done}
-use borrow.Author.Rules.{rules}
 use Rattle.livevar_analysis.proofs.execute.apply.Goals as goal
 use Rattle.livevar_analysis.proofs.execute.apply.Goals.{else-not-is_empty, then-not-is_empty+else-same}
 

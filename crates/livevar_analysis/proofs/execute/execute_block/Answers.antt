@@ -1,15 +1,9 @@
-use mathlib.Core.Path.{◌≡◌, sym, ap, ◌∙◌}
-use mathlib.Core.List.{List}
-use Prim.Native.Nat.{ℕ, suc, ◌+◌, ◌-◌, ◌≤◌, ◌<◌}
-use native.Mathlib.Numerals.{add-one}
-use lib.ListN.{length, take, drop}
+use Rattle.std.proofs.Common.{◌≡◌, sym, ap, ◌∙◌, List, ℕ, suc, ◌+◌, ◌-◌, ◌≤◌, ◌<◌, add-one, length, take, drop, rules, arith}
 use Rattle.dataflow_domains.specs.Sets.{mask}
 use Rattle.stackless_bytecode.specs.declared.Bytecode.{Bytecode}
 use Rattle.livevar_analysis.specs.Analysis.{execute_all}
 use Rattle.livevar_analysis.specs.Rules.{Ruled}
 use Rattle.livevar_analysis.specs.EngineLaws.{execute_more, execute_none}
-use borrow.Author.Rules.{rules}
-use native.Mathlib.Omega.{arith}
 use Rattle.livevar_analysis.proofs.execute.execute_block.Goals as goal
 use Rattle.livevar_analysis.proofs.execute.execute_block.Invariants.{BlockLeft}
 

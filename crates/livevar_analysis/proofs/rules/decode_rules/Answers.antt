@@ -1,7 +1,4 @@
-use mathlib.Core.Path.{◌≡◌, refl, sym, ap, ◌∙◌, subst}
-use mathlib.Core.List.{List}
-use Prim.Native.Nat.{ℕ, ◌+◌, ◌-◌, ◌≤◌, ◌<◌}
-use lib.ListN.{length}
+use Rattle.std.proofs.Common.{◌≡◌, refl, sym, ap, ◌∙◌, subst, List, ℕ, ◌+◌, ◌-◌, ◌≤◌, ◌<◌, length, rules, arith}
 use Rattle.sheet.specs.Layout.{count_of, code_of}
 use Rattle.stackless_bytecode.specs.declared.Bytecode.{Bytecode}
 use Rattle.stackless_bytecode.specs.Kinds.{at}
@@ -10,8 +7,6 @@ use Rattle.sheet.specs.CheckLaws.{code_length}
 use Rattle.livevar_analysis.specs.Rules.{InRange, RuleRoom}
 use Rattle.livevar_analysis.specs.DecodeLaws.{RuledTo, ruled_none, ruled_all, ruled_more}
 use Rattle.livevar_analysis.specs.InputLaws.{code_at, in_range, record_inside}
-use borrow.Author.Rules.{rules}
-use native.Mathlib.Omega.{arith}
 use Rattle.livevar_analysis.proofs.rules.decode_rules.Goals as goal
 use Rattle.livevar_analysis.proofs.rules.decode_rules.Invariants.{DecodedTo}
 

@@ -1,4 +1,4 @@
-use borrow.Author.Rules.{rules}
+use Rattle.std.proofs.Common.{rules}
 use Rattle.livevar_analysis.specs.DecodeLaws.{applied_none}
 use Rattle.livevar_analysis.proofs.rules.no_rule.Goals as goal
 

@@ -1,5 +1,4 @@
-use mathlib.Core.Path.{sym, ◌∙◌}
-use borrow.Author.Rules.{rules}
+use Rattle.std.proofs.Common.{sym, ◌∙◌, rules}
 use Rattle.livevar_analysis.specs.DecodeLaws.{decoded_assign, decoded_load, decoded_sources, none_is}
 use Rattle.livevar_analysis.proofs.rules.rule_of.Goals as goal
 

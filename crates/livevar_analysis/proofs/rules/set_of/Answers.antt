@@ -1,11 +1,7 @@
-use mathlib.Core.Path.{◌≡◌, ◌∙◌}
-use Prim.Native.Nat.{◌≤◌, ◌<◌, ◌-◌}
-use lib.ListN.{take, length}
+use Rattle.std.proofs.Common.{◌≡◌, ◌∙◌, ◌≤◌, ◌<◌, ◌-◌, take, length, rules, arith}
 use Rattle.dataflow_domains.specs.Mask.{set_of}
 use Rattle.dataflow_domains.specs.Sets.{mask}
 use Rattle.livevar_analysis.specs.DecodeLaws.{set_of_more}
-use borrow.Author.Rules.{rules}
-use native.Mathlib.Omega.{arith}
 use Rattle.livevar_analysis.proofs.rules.set_of.Goals as goal
 
 pub loop-i-init : goal.loop-i-init

@@ -1,6 +1,4 @@
-use mathlib.Core.Path.{◌≡◌, ◌∙◌}
-use Prim.Native.Nat.{◌≤◌, ◌<◌, ◌-◌}
-use lib.ListN.{take, length}
+use Rattle.std.proofs.Common.{◌≡◌, ◌∙◌, ◌≤◌, ◌<◌, ◌-◌, take, length}
 use Rattle.dataflow_domains.specs.Mask.{set_of}
 use Rattle.dataflow_domains.specs.Sets.{mask}
 use Rattle.livevar_analysis.specs.DecodeLaws.{set_of_more}

@@ -1,14 +1,9 @@
-use mathlib.Core.Path.{◌≡◌}
-use mathlib.Core.List.{List}
-use Prim.Native.Nat.{ℕ, ◌+◌, ◌-◌, ◌≤◌, ◌<◌}
-use lib.ListN.{length, get_or}
+use Rattle.std.proofs.Common.{◌≡◌, List, ℕ, ◌+◌, ◌-◌, ◌≤◌, ◌<◌, length, get_or, rules, arith}
 use Rattle.base.specs.Lists.{tab}
 use Rattle.base.specs.ListLaws.{length_tab, get_d_tab}
 use Rattle.dataflow_domains.specs.Sets.{mask}
 use Rattle.dataflow_analysis.specs.declared.Cursor.{Cursor}
 use Rattle.livevar_analysis.specs.EngineLaws.{Handing, hand_none, hand_asks, hand_more, hand_all}
-use borrow.Author.Rules.{rules}
-use native.Mathlib.Omega.{arith}
 use Rattle.livevar_engine.proofs.engine.hand_all.Goals as goal
 use Rattle.livevar_engine.proofs.engine.hand_all.Invariants.{Held, blocks}
 

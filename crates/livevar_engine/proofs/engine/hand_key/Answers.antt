@@ -1,14 +1,9 @@
-use mathlib.Core.Path.{◌≡◌, refl, sym, ap, ◌∙◌}
-use mathlib.Core.List.{List}
-use Prim.Native.Nat.{ℕ, ◌+◌, ◌-◌, ◌≤◌, ◌<◌}
-use lib.ListN.{length, get_or, take, drop}
+use Rattle.std.proofs.Common.{◌≡◌, refl, sym, ap, ◌∙◌, List, ℕ, ◌+◌, ◌-◌, ◌≤◌, ◌<◌, length, get_or, take, drop, arith, rules}
 use Rattle.stackless_bytecode.specs.declared.Bytecode.{Bytecode}
 use Rattle.stackless_control_flow_graph.specs.Blocks.{keyed}
 use Rattle.stackless_control_flow_graph.specs.Graph.{Edges}
 use Rattle.livevar_analysis.specs.Engine.{leads}
 use Rattle.livevar_analysis.specs.EngineLaws.{can_hand_as, handed_as, leads_all}
-use native.Mathlib.Omega.{arith}
-use borrow.Author.Rules.{rules}
 use Rattle.livevar_engine.proofs.engine.hand_key.Goals as goal
 
 pub hand_all-requires : goal.hand_all-requires

@@ -1,9 +1,6 @@
-use mathlib.Core.Path.{refl}
-use Prim.Native.Nat.{◌-◌}
-use lib.ListN.{length}
+use Rattle.std.proofs.Common.{refl, ◌-◌, length, rules}
 use Rattle.dataflow_domains.specs.Sets.{mask}
 use Rattle.livevar_analysis.specs.EngineLaws.{Handing, hand_none, hand_asks, hand_more, hand_all}
-use borrow.Author.Rules.{rules}
 use Rattle.livevar_engine.proofs.engine.hand_on.Goals as goal
 
 pub loop-i-init : goal.loop-i-init

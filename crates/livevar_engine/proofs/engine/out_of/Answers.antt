@@ -1,10 +1,6 @@
-use mathlib.Core.Path.{◌≡◌, sym, ap, ◌∙◌}
-use Prim.Native.Nat.{ℕ, ◌-◌, ◌≤◌}
-use lib.ListN.{get_or}
+use Rattle.std.proofs.Common.{◌≡◌, sym, ap, ◌∙◌, ℕ, ◌-◌, ◌≤◌, get_or, arith, rules}
 use Rattle.dataflow_domains.specs.Sets.{mask, stored_set}
 use Rattle.livevar_analysis.specs.EngineLaws.{out_dummy, out_block}
-use native.Mathlib.Omega.{arith}
-use borrow.Author.Rules.{rules}
 use Rattle.livevar_engine.proofs.engine.out_of.Goals as goal
 
 pub returns-then-key-lt2 : goal.returns-then-key-lt2

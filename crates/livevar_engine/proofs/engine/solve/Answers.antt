@@ -1,5 +1,4 @@
-use native.Mathlib.Omega.{arith}
-use borrow.Author.Rules.{rules}
+use Rattle.std.proofs.Common.{arith, rules}
 use Rattle.livevar_analysis.specs.RunLaws.{few_nodes, start_input}
 use Rattle.livevar_engine.proofs.engine.solve.Goals as goal
 

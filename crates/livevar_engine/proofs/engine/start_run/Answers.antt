@@ -1,11 +1,7 @@
-use mathlib.Core.Path.{◌∙◌}
-use mathlib.Core.List.{List}
-use Prim.Native.Nat.{ℕ}
-use lib.ListN.{set, length-set}
+use Rattle.std.proofs.Common.{◌∙◌, List, ℕ, set, length-set, rules}
 use Rattle.stackless_bytecode.specs.declared.Bytecode.{Bytecode}
 use Rattle.livevar_analysis.specs.Engine.{Begun, RunInput}
 use Rattle.livevar_analysis.specs.RunLaws.{begun}
-use borrow.Author.Rules.{rules}
 use Rattle.livevar_engine.proofs.engine.start_run.Goals as goal
 
 pub run-requires : goal.run-requires

@@ -1,10 +1,6 @@
-use mathlib.Core.Path.{sym, ap, ◌∙◌}
-use mathlib.Core.Bool.{Bool, cond}
-use lib.ListN.{get_or}
+use Rattle.std.proofs.Common.{sym, ap, ◌∙◌, Bool, cond, get_or, arith, rules}
 use Rattle.dataflow_domains.specs.Sets.{mask, stored_set}
 use Rattle.livevar_analysis.specs.Output.{after_by}
-use native.Mathlib.Omega.{arith}
-use borrow.Author.Rules.{rules}
 use Rattle.livevar_output.proofs.output.after_of.Goals as goal
 
 pub returns-then-ends : goal.returns-then-ends

@@ -3,7 +3,7 @@ use Rattle.base.specs.Bytes.{bytes_of}
 use Rattle.dataflow_domains.specs.Sets.{mask}
 use Rattle.dataflow_domains.specs.ByteLaws.{bytes_length}
 use Rattle.base.specs.WriteLaws.{fill_two}
-use borrow.Author.Rules.{rules}
+use Rattle.std.proofs.Common.{rules}
 use Rattle.livevar_output.proofs.output.put_info.Goals as goal
 
 pub returns : goal.returns

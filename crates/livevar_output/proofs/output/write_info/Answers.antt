@@ -1,7 +1,4 @@
-use mathlib.Core.Path.{◌≡◌, refl, sym, ap, ◌∙◌}
-use mathlib.Core.List.{List, ◌++◌}
-use Prim.Native.Nat.{ℕ, ◌*◌, ◌≤◌}
-use lib.ListN.{length, drop}
+use Rattle.std.proofs.Common.{◌≡◌, refl, sym, ap, ◌∙◌, List, ◌++◌, ℕ, ◌*◌, ◌≤◌, length, drop, rules, arith}
 use Rattle.base.specs.Sizes.{pair_bytes}
 use Rattle.dataflow_domains.specs.Sets.{mask}
 use Rattle.stackless_bytecode.specs.declared.Bytecode.{Bytecode}
@@ -9,8 +6,6 @@ use Rattle.livevar_analysis.specs.Analysis.{live_bytes}
 use Rattle.livevar_analysis.specs.Rules.{Ruled}
 use Rattle.livevar_analysis.specs.Output.{infos_by, Blocked}
 use Rattle.livevar_analysis.specs.OutputLaws.{InfoWritten, written_none, written_step, written_all}
-use borrow.Author.Rules.{rules}
-use native.Mathlib.Omega.{arith}
 use Rattle.livevar_output.proofs.output.write_info.Goals as goal
 use Rattle.livevar_output.proofs.output.write_info.Invariants.{WrittenFrom}
 

@@ -1,4 +1,4 @@
-use mathlib.Core.Path.{refl}
+use Rattle.std.proofs.Common.{refl}
 use Rattle.sheet.specs.Layout.{padded}
 use Rattle.livevar_transform.proofs.instructions.mark.Goals as goal
 

@@ -1,8 +1,6 @@
-use mathlib.Core.Path.{◌∙◌}
-use Prim.Native.Nat.{◌*◌}
+use Rattle.std.proofs.Common.{◌∙◌, ◌*◌, rules}
 use Rattle.base.specs.Sizes.{pair_bytes}
 use Rattle.livevar_transform.specs.PlanLaws.{after_part}
-use borrow.Author.Rules.{rules}
 use Rattle.livevar_transform.proofs.plan.after_at.Goals as goal
 
 pub returns : goal.returns

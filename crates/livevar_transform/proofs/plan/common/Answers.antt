@@ -1,5 +1,5 @@
 use Rattle.livevar_transform.specs.LostLaws.{common_by}
-use borrow.Author.Rules.{rules}
+use Rattle.std.proofs.Common.{rules}
 use Rattle.livevar_transform.proofs.plan.common.Goals as goal
 
 pub returns : goal.returns

@@ -1,14 +1,7 @@
-use mathlib.Core.Path.{◌≡◌, ◌∙◌}
-use mathlib.Core.Logic.{⊎_elim}
-use mathlib.Core.Bool.{not}
-use lib.Dec.{eqb}
-use lib.ListN.{get_or}
-use Prim.Native.Nat.{◌*◌, ◌-◌, ◌≤◌}
+use Rattle.std.proofs.Common.{◌≡◌, ◌∙◌, ⊎_elim, not, eqb, get_or, ◌*◌, ◌-◌, ◌≤◌, rules, arith}
 use Rattle.base.specs.Lists.{count}
 use Rattle.livevar_transform.specs.Plan.{numbers_at}
 use Rattle.livevar_transform.specs.NumberLaws.{numbers_first, numbers_small, numbers_both, kept_none, kept_more, kept_same, counted}
-use borrow.Author.Rules.{rules}
-use native.Mathlib.Omega.{arith}
 use Rattle.livevar_transform.proofs.plan.count.Goals as goal
 use Rattle.livevar_transform.proofs.plan.count.Goals.{else-fates-k-ne-DROPPED, then-fates-k-ne-DROPPED}
 

@@ -1,5 +1,4 @@
-use mathlib.Core.Path.{sym, ◌∙◌}
-use mathlib.Core.Bool.{true, false}
+use Rattle.std.proofs.Common.{sym, ◌∙◌, true, false}
 use Rattle.livevar_transform.specs.PlanLaws.{ranged, room_at, dead_at, fate_behind, fate_dead, fate_kept}
 use Rattle.livevar_transform.proofs.plan.fate_of.Goals as goal
 

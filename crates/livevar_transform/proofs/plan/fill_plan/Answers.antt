@@ -1,14 +1,10 @@
-use mathlib.Core.Path.{◌≡◌, refl}
-use Prim.Native.Nat.{◌-◌, ◌≤◌}
-use lib.ListN.{length}
+use Rattle.std.proofs.Common.{◌≡◌, refl, ◌-◌, ◌≤◌, length, rules, arith}
 use Rattle.dataflow_domains.specs.Sets.{mask}
 use Rattle.sheet.specs.Layout.{code_of}
 use Rattle.livevar_analysis.specs.Analysis.{infos_of}
 use Rattle.livevar_transform.specs.Plan.{is_behind, Planned}
 use Rattle.livevar_transform.specs.PlanLaws.{inside, behind_first, behind_next}
 use Rattle.livevar_transform.specs.LostLaws.{edges_room, planned_none, planned_more, planned_end}
-use borrow.Author.Rules.{rules}
-use native.Mathlib.Omega.{arith}
 use Rattle.livevar_transform.proofs.plan.fill_plan.Goals as goal
 
 pub loop-k-init : goal.loop-k-init

@@ -1,6 +1,4 @@
-use mathlib.Core.Path.{◌≡◌, refl}
-use Prim.Native.Nat.{◌-◌, ◌≤◌}
-use lib.ListN.{length}
+use Rattle.std.proofs.Common.{◌≡◌, refl, ◌-◌, ◌≤◌, length}
 use Rattle.dataflow_domains.specs.Sets.{mask}
 use Rattle.sheet.specs.Layout.{code_of}
 use Rattle.livevar_analysis.specs.Analysis.{infos_of}

@@ -1,6 +1,4 @@
-use mathlib.Core.Path.{◌≡◌}
-use Prim.Native.Nat.{◌-◌, ◌≤◌, max}
-use lib.ListN.{drop}
+use Rattle.std.proofs.Common.{◌≡◌, ◌-◌, ◌≤◌, max, drop}
 use Rattle.base.specs.Lists.{gather}
 use Rattle.sheet.specs.Layout.{code_of}
 use Rattle.stackless_bytecode.specs.Kinds.{label_of}

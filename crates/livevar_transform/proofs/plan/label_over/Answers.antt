@@ -1,5 +1,5 @@
 use Rattle.livevar_transform.specs.HighestLaws.{label_raised, label_same}
-use native.Mathlib.Omega.{arith}
+use Rattle.std.proofs.Common.{arith}
 use Rattle.livevar_transform.proofs.plan.label_over.Goals as goal
 
 pub returns-then-top-r : goal.returns-then-top-r

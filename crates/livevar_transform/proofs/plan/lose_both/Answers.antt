@@ -1,5 +1,5 @@
 use Rattle.livevar_transform.specs.LostLaws.{both_lost}
-use borrow.Author.Rules.{rules}
+use Rattle.std.proofs.Common.{rules}
 use Rattle.livevar_transform.proofs.plan.lose_both.Goals as goal
 
 pub returns : goal.returns

@@ -1,12 +1,8 @@
-use mathlib.Core.Path.{ap, ◌∙◌}
-use lib.ListN.{get_or}
-use Prim.Native.Nat.{ℕ, ◌*◌}
+use Rattle.std.proofs.Common.{ap, ◌∙◌, get_or, ℕ, ◌*◌, arith, rules}
 use Rattle.base.specs.Sizes.{set_bytes, pair_bytes}
 use Rattle.base.specs.Bytes.{number, part}
 use Rattle.livevar_transform.specs.PlanLaws.{before_part}
 use Rattle.livevar_transform.specs.LostLaws.{lost_none, lost_some}
-use native.Mathlib.Omega.{arith}
-use borrow.Author.Rules.{rules}
 use Rattle.livevar_transform.proofs.plan.lost_on.Goals as goal
 
 pub returns-then-r-ne4 : goal.returns-then-r-ne4

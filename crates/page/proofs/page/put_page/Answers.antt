@@ -1,6 +1,4 @@
-use native.Mathlib.Omega.{arith}
-use borrow.Author.Rules.{rules}
-use mathlib.Core.Path.{sym, ap, ap₂, ◌∙◌}
+use Rattle.std.proofs.Common.{arith, rules, sym, ap, ap₂, ◌∙◌}
 use Rattle.base.specs.Refusals.{verdict_of}
 use Rattle.base.specs.RefusalLaws.{accepted_by}
 use Rattle.sheet.specs.ValidLaws.{accepted_valid}

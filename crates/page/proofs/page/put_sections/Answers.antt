@@ -1,9 +1,5 @@
-use native.Mathlib.Omega.{arith}
-use borrow.Author.Rules.{rules}
-use mathlib.Core.Path.{sym, ap, ◌∙◌}
-use mathlib.Core.List.{List, ◌++◌}
-use Prim.Native.Nat.{ℕ, ◌*◌}
-use lib.ListN.{length-replicate}
+use Rattle.std.proofs.Common.{arith, rules, sym, ap, ◌∙◌, List, ◌++◌, ℕ, ◌*◌}
+use Rattle.std.proofs.lemmas.List.{length-replicate}
 use Rattle.base.specs.Sizes.{pair_bytes, max_instructions}
 use Rattle.sheet.specs.CheckLaws.{code_length}
 use Rattle.sheet.specs.ValidLaws.{accepted_valid}

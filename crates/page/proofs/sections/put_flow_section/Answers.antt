@@ -1,8 +1,5 @@
-use borrow.Author.Rules.{rules}
-use mathlib.Core.Path.{◌≡◌}
-use mathlib.Core.List.{List}
-use Prim.Native.Nat.{ℕ, ◌*◌}
-use lib.ListN.{length, replicate, length-replicate}
+use Rattle.std.proofs.Common.{rules, ◌≡◌, List, ℕ, ◌*◌, length, replicate}
+use Rattle.std.proofs.lemmas.List.{length-replicate}
 use Rattle.base.specs.Sizes.{row_numbers, max_instructions}
 use Rattle.listing.specs.OutputLaws.{wrote_as, wrote_then}
 use Rattle.pages.specs.SectionLaws.{flow_written}

@@ -1,9 +1,5 @@
-use native.Mathlib.Omega.{arith}
-use borrow.Author.Rules.{rules}
-use mathlib.Core.Path.{sym, ap₂, ◌∙◌}
-use Prim.Native.Nat.{ℕ}
-use lib.ListN.{length-replicate}
-use lib.Seq.{length-take-le}
+use Rattle.std.proofs.Common.{arith, rules, sym, ap₂, ◌∙◌, ℕ, length-take-le}
+use Rattle.std.proofs.lemmas.List.{length-replicate}
 use Rattle.base.specs.Sizes.{max_bytes}
 use Rattle.listing.specs.Lines.{refused_text}
 use Rattle.listing.specs.OutputLaws.{wrote_as, wrote_then}

@@ -1,6 +1,4 @@
-use borrow.Author.Rules.{rules}
-use native.Mathlib.Omega.{arith}
-use Prim.Native.Nat.{◌-◌, ◌≤◌}
+use Rattle.std.proofs.Common.{rules, arith, ◌-◌, ◌≤◌}
 use Rattle.listing.specs.Output.{Wrote}
 use Rattle.listing.specs.OutputLaws.{wrote_as, wrote_none, wrote_then, wrote_length}
 use Rattle.pages.specs.Parts.{block_lines}

@@ -1,4 +1,4 @@
-use borrow.Author.Rules.{rules}
+use Rattle.std.proofs.Common.{rules}
 use Rattle.pages.specs.Marks.{is_unmarked}
 use Rattle.page_tables.proofs.labels.is_unmarked.Goals as goal
 

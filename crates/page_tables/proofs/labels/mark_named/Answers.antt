@@ -1,8 +1,4 @@
-use borrow.Author.Rules.{rules}
-use native.Mathlib.Omega.{arith}
-use mathlib.Core.Path.{◌≡◌, refl, ◌∙◌}
-use Prim.Native.Nat.{◌-◌, ◌*◌, ◌≤◌}
-use lib.ListN.{length}
+use Rattle.std.proofs.Common.{rules, arith, ◌≡◌, refl, ◌∙◌, ◌-◌, ◌*◌, ◌≤◌, length}
 use Rattle.sheet.specs.Layout.{code_of}
 use Rattle.sheet.specs.Shaped.{record_inside}
 use Rattle.stackless_control_flow_graph.specs.CheckedSheetLaws.{checked_shaped}

@@ -1,6 +1,4 @@
-use borrow.Author.Rules.{rules}
-use mathlib.Core.Path.{sym, ◌∙◌}
-use Prim.Native.Nat.{ℕ}
+use Rattle.std.proofs.Common.{rules, sym, ◌∙◌, ℕ}
 use Rattle.listing.specs.Words.{ascii, said}
 use Rattle.listing.specs.OutputLaws.{wrote_as, wrote_by, wrote_none}
 use Rattle.pages.specs.UnnamedLaws.{unmarked_some, unmarked_none}

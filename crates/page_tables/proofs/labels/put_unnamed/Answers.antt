@@ -1,8 +1,5 @@
-use native.Mathlib.Omega.{arith}
-use borrow.Author.Rules.{rules}
-use mathlib.Core.Path.{sym, ◌∙◌}
-use Prim.Native.Nat.{ℕ}
-use lib.ListN.{length-replicate}
+use Rattle.std.proofs.Common.{arith, rules, sym, ◌∙◌, ℕ}
+use Rattle.std.proofs.lemmas.List.{length-replicate}
 use Rattle.base.specs.Sizes.{max_instructions}
 use Rattle.base.specs.ListLaws.{copies_at}
 use Rattle.stackless_control_flow_graph.specs.CheckedSheetLaws.{checked_shaped}

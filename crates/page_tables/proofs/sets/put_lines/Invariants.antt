@@ -1,4 +1,4 @@
-use Prim.Native.Nat.{◌-◌, ◌≤◌}
+use Rattle.std.proofs.Common.{◌-◌, ◌≤◌}
 use Rattle.livevar_analysis.specs.Analysis.{infos_of}
 use Rattle.listing.specs.Output.{Wrote}
 use Rattle.listing.specs.OutputLaws.{wrote_as, wrote_none, wrote_then, wrote_length}

@@ -1,8 +1,4 @@
-use borrow.Author.Rules.{rules}
-use native.Mathlib.Omega.{arith}
-use mathlib.Core.Path.{◌≡◌, ◌∙◌}
-use Prim.Native.Nat.{◌-◌, ◌≤◌}
-use lib.ListN.{length}
+use Rattle.std.proofs.Common.{rules, arith, ◌≡◌, ◌∙◌, ◌-◌, ◌≤◌, length}
 use Rattle.sheet.specs.Layout.{code_of}
 use Rattle.livevar_analysis.specs.InputLaws.{count_of_lem}
 use Rattle.stackless_control_flow_graph.specs.CheckedSheetLaws.{accepted_has}

@@ -1,6 +1,4 @@
-use borrow.Author.Rules.{rules}
-use mathlib.Core.Path.{◌∙◌}
-use Prim.Native.Nat.{ℕ}
+use Rattle.std.proofs.Common.{rules, ◌∙◌, ℕ}
 use Rattle.listing.specs.OutputLaws.{wrote_as, wrote_by, wrote_then}
 use Rattle.listing.specs.Words.{ascii, said}
 use Rattle.pages.specs.CodeLaws.{counts_is}

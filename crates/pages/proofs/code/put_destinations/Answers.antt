@@ -1,7 +1,4 @@
-use borrow.Author.Rules.{rules}
-use mathlib.Core.Path.{sym, ◌∙◌}
-use Prim.Native.Nat.{ℕ}
-use lib.ListN.{take}
+use Rattle.std.proofs.Common.{rules, sym, ◌∙◌, ℕ, take}
 use Rattle.listing.specs.OutputLaws.{wrote_as, wrote_by, wrote_then}
 use Rattle.listing.specs.Words.{ascii}
 use Rattle.pages.specs.Words.{listed}

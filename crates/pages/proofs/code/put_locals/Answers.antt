@@ -1,7 +1,4 @@
-use borrow.Author.Rules.{rules}
-use native.Mathlib.Omega.{arith}
-use mathlib.Core.Path.{◌≡◌, sym}
-use Prim.Native.Nat.{◌-◌, ◌≤◌}
+use Rattle.std.proofs.Common.{rules, arith, ◌≡◌, sym, ◌-◌, ◌≤◌}
 use Rattle.base.specs.Sizes.{max_locals}
 use Rattle.base.specs.Bytes.{number}
 use Rattle.listing.specs.Output.{Wrote}

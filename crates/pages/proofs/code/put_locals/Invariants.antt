@@ -1,5 +1,4 @@
-use mathlib.Core.Path.{◌≡◌, sym}
-use Prim.Native.Nat.{◌-◌, ◌≤◌}
+use Rattle.std.proofs.Common.{◌≡◌, sym, ◌-◌, ◌≤◌}
 use Rattle.base.specs.Sizes.{max_locals}
 use Rattle.base.specs.Bytes.{number}
 use Rattle.listing.specs.Output.{Wrote}

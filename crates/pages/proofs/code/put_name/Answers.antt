@@ -1,6 +1,4 @@
-use borrow.Author.Rules.{rules}
-use mathlib.Core.Path.{ap, ◌∙◌}
-use Prim.Native.Nat.{ℕ}
+use Rattle.std.proofs.Common.{rules, ap, ◌∙◌, ℕ}
 use Rattle.listing.specs.OutputLaws.{wrote_as, wrote_by, wrote_none}
 use Rattle.pages.specs.Words.{word}
 use Rattle.pages.specs.Code.{assigns, operations, constants, props}

@@ -1,7 +1,4 @@
-use borrow.Author.Rules.{rules}
-use Prim.Native.Nat.{ℕ}
-use lib.ListN.{take}
-use mathlib.Core.List.{[]}
+use Rattle.std.proofs.Common.{rules, ℕ, take, []}
 use Rattle.listing.specs.OutputLaws.{wrote_as, wrote_by}
 use Rattle.listing.specs.Words.{ascii}
 use Rattle.pages.specs.Words.{listed}

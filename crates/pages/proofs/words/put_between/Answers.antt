@@ -1,6 +1,4 @@
-use borrow.Author.Rules.{rules}
-use mathlib.Core.Path.{ap}
-use Prim.Native.Nat.{ℕ}
+use Rattle.std.proofs.Common.{rules, ap, ℕ}
 use Rattle.listing.specs.OutputLaws.{wrote_as, wrote_then}
 use Rattle.listing.specs.Words.{said}
 use Rattle.pages.proofs.words.put_between.Goals as goal

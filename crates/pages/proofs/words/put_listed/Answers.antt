@@ -1,9 +1,4 @@
-use borrow.Author.Rules.{rules}
-use native.Mathlib.Omega.{arith}
-use mathlib.Core.Path.{sym, ap}
-use mathlib.Core.Logic.{◌≢◌}
-use Prim.Native.Nat.{ℕ, ◌-◌, ◌≤◌}
-use lib.ListN.{length, take}
+use Rattle.std.proofs.Common.{rules, arith, sym, ap, ◌≢◌, ℕ, ◌-◌, ◌≤◌, length, take}
 use Rattle.listing.specs.Output.{Wrote}
 use Rattle.listing.specs.OutputLaws.{wrote_none, wrote_as, wrote_then, wrote_length}
 use Rattle.pages.specs.Words.{listed}

@@ -1,8 +1,4 @@
-use borrow.Author.Rules.{rules}
-use native.Mathlib.Omega.{arith}
-use mathlib.Core.Path.{sym, ap, ◌∙◌}
-use Prim.Native.Nat.{ℕ, ◌+◌, ◌-◌, ◌≤◌}
-use lib.ListN.{length, drop}
+use Rattle.std.proofs.Common.{rules, arith, sym, ap, ◌∙◌, ℕ, ◌+◌, ◌-◌, ◌≤◌, length, drop}
 use Rattle.listing.specs.OutputLaws.{Goes, goes_start, goes_as, goes_on, goes_end, goes_length}
 use Rattle.pages.specs.Words.{word}
 use Rattle.pages.specs.WordLaws.{word_ends, word_goes, word_end}

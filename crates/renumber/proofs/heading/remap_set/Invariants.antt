@@ -1,5 +1,4 @@
-use mathlib.Core.Path.{◌≡◌, refl, ◌∙◌}
-use Prim.Native.Nat.{◌≤◌, ◌-◌}
+use Rattle.std.proofs.Common.{◌≡◌, refl, ◌∙◌, ◌≤◌, ◌-◌}
 use Rattle.dataflow_domains.specs.Sets.{mask}
 use Rattle.eliminate_unused_vars.specs.RenumberWorkLaws.{first_set, set_none, set_next, set_all}
 use Rattle.renumber.proofs.heading.remap_set.Given as goal

@@ -1,7 +1,4 @@
-use mathlib.Core.Path.{◌≡◌, sym, ap, ◌∙◌}
-use mathlib.Core.Bool.{not}
-use mathlib.Core.List.{List}
-use Prim.Native.Nat.{ℕ}
+use Rattle.std.proofs.Common.{◌≡◌, sym, ap, ◌∙◌, not, List, ℕ, rules, arith}
 use Rattle.base.specs.Lists.{first_bad}
 use Rattle.base.specs.Refusals.{found_of}
 use Rattle.base.specs.RefusalLaws.{found_at, refused_at, found_none, accepted_none}
@@ -10,8 +7,6 @@ use Rattle.stackless_bytecode.specs.Kinds.{at}
 use Rattle.sheet.specs.Layout.{count_of, code_of}
 use Rattle.sheet.specs.ValidLaws.{accepted_valid}
 use Rattle.eliminate_unused_vars.specs.Renumber.{hides_local}
-use borrow.Author.Rules.{rules}
-use native.Mathlib.Omega.{arith}
 use Rattle.renumber.proofs.renumber.check_hidden.Goals as goal
 
 by_count : (s : List ℕ) (n : ℕ) → n ≡ count_of s → found_of (first_bad n 0 (λ k. not (hides_local (at (code_of s) k)))) ≡ found_of (first_bad (count_of s) 0 (λ k. not (hides_local (at (code_of s) k))))

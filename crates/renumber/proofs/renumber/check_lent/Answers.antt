@@ -1,4 +1,4 @@
-use mathlib.Core.Path.{sym}
+use Rattle.std.proofs.Common.{sym}
 use Rattle.base.specs.RefusalLaws.{lends_short, lends_enough}
 use Rattle.renumber.proofs.renumber.check_lent.Goals as goal
 

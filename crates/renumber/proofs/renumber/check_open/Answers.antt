@@ -1,6 +1,5 @@
-use mathlib.Core.Path.{sym, ◌∙◌}
+use Rattle.std.proofs.Common.{sym, ◌∙◌, rules}
 use Rattle.base.specs.RefusalLaws.{then_goes, refused_by, accepted_by}
-use borrow.Author.Rules.{rules}
 use Rattle.renumber.proofs.renumber.check_open.Goals as goal
 
 pub returns-in_default : goal.returns-in_default

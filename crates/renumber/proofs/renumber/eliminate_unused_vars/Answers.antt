@@ -1,11 +1,8 @@
-use mathlib.Core.Path.{refl}
-use Prim.Native.Nat.{ℕ, ◌-◌, ◌*◌}
-use lib.ListN.{length-replicate}
+use Rattle.std.proofs.Common.{refl, ℕ, ◌-◌, ◌*◌, rules, arith}
+use Rattle.std.proofs.lemmas.List.{length-replicate}
 use Rattle.base.specs.Sizes.{max_locals, block_bytes, max_blocks}
 use Rattle.base.specs.ListLaws.{copies_at}
 use Rattle.sheet_writer.specs.Written.{body_bytes}
-use borrow.Author.Rules.{rules}
-use native.Mathlib.Omega.{arith}
 use Rattle.renumber.proofs.renumber.eliminate_unused_vars.Goals as goal
 
 pub write_renumbered-requires : goal.write_renumbered-requires

@@ -1,6 +1,4 @@
-use mathlib.Core.Path.{◌≡◌, sym, ap, ◌∙◌}
-use mathlib.Core.Bool.{not}
-use Prim.Native.Nat.{◌-◌}
+use Rattle.std.proofs.Common.{◌≡◌, sym, ap, ◌∙◌, not, ◌-◌}
 use Rattle.base.specs.Lists.{first_bad}
 use Rattle.base.specs.SearchLaws.{bad_start, bad_more, bad_stop, bad_end}
 use Rattle.base.specs.Refusals.{found_of}

@@ -1,5 +1,4 @@
-use borrow.Author.Tests.{ne_eqb}
-use borrow.Author.Rules.{rules}
+use Rattle.std.proofs.Common.{ne_eqb, rules}
 use Rattle.eliminate_unused_vars.specs.Renumber.{hides_local}
 use Rattle.renumber.proofs.renumber.hides_local.Goals as goal
 

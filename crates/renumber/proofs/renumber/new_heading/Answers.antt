@@ -1,9 +1,7 @@
-use mathlib.Core.Path.{◌∙◌}
+use Rattle.std.proofs.Common.{◌∙◌, rules, arith}
 use Rattle.sheet.specs.ValidLaws.{accepted_valid}
 use Rattle.eliminate_unused_vars.specs.NamesLaws.{named_few, named_inside, named_below}
 use Rattle.eliminate_unused_vars.specs.RenumberWorkLaws.{rest_is}
-use borrow.Author.Rules.{rules}
-use native.Mathlib.Omega.{arith}
 use Rattle.renumber.proofs.renumber.new_heading.Goals as goal
 
 pub slice_bounds-load_bytes-end : goal.slice_bounds-load_bytes-end

@@ -1,13 +1,10 @@
-use mathlib.Core.Path.{sym, ap, ◌∙◌}
-use lib.ListN.{length}
+use Rattle.std.proofs.Common.{sym, ap, ◌∙◌, length, rules, arith}
 use Rattle.base.specs.Refusals.{verdict_of}
 use Rattle.base.specs.RefusalLaws.{accepted_by}
 use Rattle.base.specs.ReplyLaws.{refuses, refused_number}
 use Rattle.sheet.specs.Layout.{count_of}
 use Rattle.sheet.specs.ValidLaws.{accepted_valid}
 use Rattle.eliminate_unused_vars.specs.RenumberCallLaws.{renumber_refused, renumber_closed, open_enough, renumber_done}
-use borrow.Author.Rules.{rules}
-use native.Mathlib.Omega.{arith}
 use Rattle.renumber.proofs.renumber.renumber.Goals as goal
 
 pub u16_at-n-requires : goal.u16_at-n-requires

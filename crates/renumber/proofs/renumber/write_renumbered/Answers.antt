@@ -1,4 +1,4 @@
-use mathlib.Core.Path.{sym, ap, ◌∙◌}
+use Rattle.std.proofs.Common.{sym, ap, ◌∙◌, rules, arith}
 use Rattle.sheet.specs.Layout.{user_locals_of, record_blocks}
 use Rattle.sheet.specs.ValidLaws.{accepted_valid}
 use Rattle.sheet_writer.specs.SheetLaws.{few_blocks, blank_long, blank_holds}
@@ -6,8 +6,6 @@ use Rattle.eliminate_unused_vars.specs.Renumber.{renumbered_code}
 use Rattle.eliminate_unused_vars.specs.NamesLaws.{same_room}
 use Rattle.eliminate_unused_vars.specs.RemapLaws.{new_length}
 use Rattle.eliminate_unused_vars.specs.RenumberWorkLaws.{new_written}
-use borrow.Author.Rules.{rules}
-use native.Mathlib.Omega.{arith}
 use Rattle.renumber.proofs.renumber.write_renumbered.Goals as goal
 
 pub u16_at-users-requires : goal.u16_at-users-requires

@@ -1,5 +1,5 @@
-use borrow.Author.Tests.{not-true, not-false}
-use mathlib.Core.Path.{sym, ◌∙◌}
+use Rattle.std.proofs.lemmas.Bool.{not-true, not-false}
+use Rattle.std.proofs.Common.{sym, ◌∙◌}
 use Rattle.base.specs.RefusalLaws.{then_goes, then_stops, accepted_whole, refused_whole}
 use Rattle.rewrite.proofs.rewrite.check_new.Goals as goal
 

@@ -1,7 +1,4 @@
-use mathlib.Core.Path.{sym, ap, ◌∙◌}
-use borrow.Author.Tests.{leb-true}
-use native.Mathlib.Omega.{arith}
-use borrow.Author.Rules.{rules}
+use Rattle.std.proofs.Common.{sym, ap, ◌∙◌, leb-true, arith, rules}
 use Rattle.base.specs.Refusals.{verdict_of}
 use Rattle.base.specs.RefusalLaws.{accepted_by, passed, passed_whole}
 use Rattle.livevar_transform.specs.PlanLaws.{long}

@@ -1,7 +1,4 @@
-use native.Mathlib.Omega.{arith}
-use borrow.Author.Rules.{rules}
-use mathlib.Core.Path.{sym, ap, ◌∙◌}
-use lib.ListN.{length}
+use Rattle.std.proofs.Common.{arith, rules, sym, ap, ◌∙◌, length}
 use Rattle.base.specs.Refusals.{verdict_of}
 use Rattle.base.specs.RefusalLaws.{accepted_by}
 use Rattle.base.specs.ReplyLaws.{refuses, refused_number}

@@ -1,11 +1,8 @@
-use mathlib.Core.Path.{refl}
-use Prim.Native.Nat.{ℕ, ◌-◌, ◌*◌}
-use lib.ListN.{length-replicate}
+use Rattle.std.proofs.Common.{refl, ℕ, ◌-◌, ◌*◌, rules, arith}
+use Rattle.std.proofs.lemmas.List.{length-replicate}
 use Rattle.base.specs.Sizes.{set_words, slots, max_instructions, max_blocks}
 use Rattle.sheet_writer.specs.Written.{body_bytes}
 use Rattle.livevar_transform.specs.PlanLaws.{few}
-use borrow.Author.Rules.{rules}
-use native.Mathlib.Omega.{arith}
 use Rattle.rewrite.proofs.rewrite.rewrite_sheet.Goals as goal
 
 pub plan_and_write-requires : goal.plan_and_write-requires

@@ -1,9 +1,4 @@
-use mathlib.Core.Bool.{◌&&◌}
-use mathlib.Core.Path.{◌≡◌, refl, sym, ◌∙◌}
-use Prim.Native.Nat.{◌-◌}
-use borrow.Author.Rules.{rules}
-use lib.ListN.{length, drop}
-use lib.Dec.{eqb}
+use Rattle.std.proofs.Common.{◌&&◌, ◌≡◌, refl, sym, ◌∙◌, ◌-◌, rules, length, drop, eqb}
 use Rattle.base.specs.ByteLaws.{zeros_or, zeros_or_end}
 use Rattle.base.specs.Lists.{zeros}
 use Rattle.sheet.proofs.reader.all_zero.Goals as goal

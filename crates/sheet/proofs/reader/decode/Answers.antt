@@ -1,4 +1,4 @@
-use borrow.Author.Rules.{rules}
+use Rattle.std.proofs.Common.{rules}
 use Rattle.sheet.specs.Layout.{decode}
 use Rattle.sheet.proofs.reader.decode.Goals as goal
 

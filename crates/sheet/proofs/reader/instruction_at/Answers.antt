@@ -1,9 +1,4 @@
-use native.Mathlib.Omega.{arith}
-use borrow.Author.Rules.{rules}
-use mathlib.Core.Path.{◌≡◌, ap₂, ◌∙◌}
-use mathlib.Core.List.{List}
-use Prim.Native.Nat.{ℕ, ◌+◌, ◌-◌}
-use lib.ListN.{take, drop}
+use Rattle.std.proofs.Common.{arith, rules, ◌≡◌, ap₂, ◌∙◌, List, ℕ, ◌+◌, ◌-◌, take, drop}
 use Rattle.base.specs.Sizes.{record_bytes}
 use Rattle.stackless_bytecode.specs.declared.Bytecode.{Bytecode}
 use Rattle.sheet.specs.Layout.{record_start, decode, instruction_at}

@@ -1,7 +1,4 @@
-use mathlib.Core.Path.{refl}
-use Prim.Native.Nat.{◌-◌}
-use native.Mathlib.Omega.{arith}
-use borrow.Author.Rules.{rules}
+use Rattle.std.proofs.Common.{refl, ◌-◌, arith, rules}
 use Rattle.base.specs.CopyLaws.{Copied, copied_more, copied_all}
 use Rattle.base.specs.Sizes.{list_places}
 use Rattle.sheet.proofs.reader.places_at.Goals as goal

@@ -1,5 +1,4 @@
-use mathlib.Core.Path.{refl}
-use Prim.Native.Nat.{◌-◌}
+use Rattle.std.proofs.Common.{refl, ◌-◌}
 use Rattle.base.specs.CopyLaws.{Copied, copied_more, copied_all}
 use Rattle.base.specs.Sizes.{list_places}
 use Rattle.sheet.proofs.reader.places_at.Given as goal

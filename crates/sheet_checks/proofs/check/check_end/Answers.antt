@@ -1,7 +1,5 @@
-use borrow.Author.Rules.{rules}
-use mathlib.Core.Path.{sym, ap, ◌∙◌}
+use Rattle.std.proofs.Common.{rules, sym, ap, ◌∙◌, not}
 use Rattle.sheet_checks.specs.CodeLaws.{end_refused, end_accepted}
-use mathlib.Core.Bool.{not}
 use Rattle.sheet_checks.proofs.check.check_end.Goals as goal
 
 pub returns-then-last_falls : goal.returns-then-last_falls

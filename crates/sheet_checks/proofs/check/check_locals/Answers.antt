@@ -1,11 +1,7 @@
-use native.Mathlib.Omega.{arith}
-use borrow.Author.Rules.{rules}
-use mathlib.Core.Path.{◌≡◌, sym, ap, ◌∙◌}
+use Rattle.std.proofs.Common.{arith, rules, ◌≡◌, sym, ap, ◌∙◌, ℕ, List}
 use Rattle.base.specs.RefusalLaws.{found_at, refused_at, found_none, accepted_none}
 use Rattle.base.specs.SearchLaws.{bad_lt}
 use Rattle.sheet.specs.Layout.{locals_of, code_of}
-use Prim.Native.Nat.{ℕ}
-use mathlib.Core.List.{List}
 use Rattle.base.specs.Lists.{first_bad}
 use Rattle.base.specs.Bytes.{u16_at}
 use Rattle.stackless_bytecode.specs.Kinds.{at}

@@ -1,5 +1,4 @@
-use mathlib.Core.Path.{refl, sym, ap}
-use borrow.Author.Rules.{rules}
+use Rattle.std.proofs.Common.{refl, sym, ap, rules}
 use Rattle.base.specs.Refusals.{verdict_of}
 use Rattle.base.specs.RefusalLaws.{then_goes, refused_by}
 use Rattle.sheet_checks.proofs.check.first_of.Goals as goal

@@ -1,6 +1,4 @@
-use native.Mathlib.Omega.{arith}
-use borrow.Author.Rules.{rules}
-use mathlib.Core.Path.{sym, ◌∙◌}
+use Rattle.std.proofs.Common.{arith, rules, sym, ◌∙◌}
 use Rattle.sheet_checks.specs.CodeLaws.{repeats, labels_listed, labelled_repeated, labelled_undefined, labelled_all}
 use Rattle.base.specs.RefusalLaws.{found_at}
 use Rattle.base.specs.SearchLaws.{bad_lt}

@@ -1,4 +1,4 @@
-use borrow.Author.Rules.{rules}
+use Rattle.std.proofs.Common.{rules}
 use Rattle.sheet.specs.BlockLaws.{check_is}
 use Rattle.sheet.specs.Checks.{block_ok}
 use Rattle.sheet_form.proofs.blocks.block_ok.Goals as goal

@@ -1,5 +1,4 @@
-use mathlib.Core.Path.{sym}
-use borrow.Author.Rules.{rules}
+use Rattle.std.proofs.Common.{sym, rules}
 use Rattle.base.specs.ByteLaws.{byte_all, shift_none}
 use Rattle.sheet_form.proofs.blocks.byte_below.Goals as goal
 

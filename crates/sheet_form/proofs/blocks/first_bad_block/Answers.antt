@@ -1,12 +1,6 @@
-use mathlib.Core.List.{List}
-use mathlib.Core.Bool.{Bool}
-use mathlib.Core.Path.{◌≡◌, refl, sym, ap, ◌∙◌}
-use Prim.Native.Nat.{ℕ, ◌-◌, ◌/◌}
-use native.Mathlib.Nat.{add-sub_cancel_left}
-use native.Mathlib.Omega.{arith}
-use borrow.Author.Tests.{not-true, not-false}
-use borrow.Author.Rules.{rules}
-use lib.ListN.{length}
+use Rattle.std.proofs.Common.{List, Bool, ◌≡◌, refl, sym, ap, ◌∙◌, ℕ, ◌-◌, ◌/◌, arith, rules, length}
+use Rattle.std.proofs.Math.Nat.{add-sub_cancel_left}
+use Rattle.std.proofs.lemmas.Bool.{not-true, not-false}
 use Rattle.base.specs.Sizes.{block_bytes}
 use Rattle.base.specs.SearchLaws.{bad_more, bad_stop, bad_end}
 use Rattle.base.specs.Lists.{first_bad}

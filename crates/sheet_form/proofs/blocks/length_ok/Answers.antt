@@ -1,5 +1,4 @@
-use mathlib.Core.Path.{refl}
-use borrow.Author.Rules.{rules}
+use Rattle.std.proofs.Common.{refl, rules}
 use Rattle.sheet.specs.Checks.{length_ok}
 use Rattle.sheet_form.proofs.blocks.length_ok.Goals as goal
 

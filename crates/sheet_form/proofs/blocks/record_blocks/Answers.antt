@@ -1,6 +1,4 @@
-use mathlib.Core.Path.{refl}
-use native.Mathlib.Omega.{arith}
-use borrow.Author.Rules.{rules}
+use Rattle.std.proofs.Common.{refl, arith, rules}
 use Rattle.sheet.specs.Layout.{record_blocks}
 use Rattle.sheet_form.proofs.blocks.record_blocks.Goals as goal
 

@@ -1,6 +1,4 @@
-use mathlib.Core.Path.{◌≡◌}
-use Prim.Native.Nat.{◌+◌, ◌≤◌, ◌*◌, ◌-◌}
-use lib.ListN.{length, drop}
+use Rattle.std.proofs.Common.{◌≡◌, ◌+◌, ◌≤◌, ◌*◌, ◌-◌, length, drop}
 use Rattle.base.specs.Lists.{sum}
 use Rattle.base.specs.ByteLaws.{sum_more, sum_end}
 use Rattle.sheet_form.proofs.blocks.total.Given as goal

@@ -1,5 +1,4 @@
-use borrow.Author.Rules.{rules}
-use mathlib.Core.Path.{sym, ◌∙◌}
+use Rattle.std.proofs.Common.{rules, sym, ◌∙◌}
 use Rattle.base.specs.RefusalLaws.{then_goes, passed_whole, refused_by, accepted_by}
 use Rattle.sheet.specs.FormLaws.{length_sized}
 use Rattle.sheet.specs.Checks.{check_form}

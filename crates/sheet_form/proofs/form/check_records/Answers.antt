@@ -1,13 +1,9 @@
-use native.Mathlib.Omega.{arith}
-use borrow.Author.Rules.{rules}
-use mathlib.Core.Path.{◌≡◌, sym, ap, ◌∙◌}
+use Rattle.std.proofs.Common.{arith, rules, ◌≡◌, sym, ap, ◌∙◌, ℕ, ◌+◌, ◌*◌, List}
 use Rattle.base.specs.RefusalLaws.{found_at, refused_at, found_none, accepted_none}
 use Rattle.base.specs.SearchLaws.{bad_lt}
 use Rattle.sheet.specs.Layout.{count_of, record_blocks}
 use Rattle.base.specs.Refusals.{found_of}
 use Rattle.sheet.specs.Checks.{place_ok}
-use Prim.Native.Nat.{ℕ, ◌+◌, ◌*◌}
-use mathlib.Core.List.{List}
 use Rattle.base.specs.Sizes.{block_bytes, block_records}
 use Rattle.base.specs.Lists.{first_bad}
 use Rattle.base.specs.declared.Found.{Found}

@@ -1,7 +1,4 @@
-use mathlib.Core.Path.{◌≡◌, sym, ap, ◌∙◌}
-use Prim.Native.Nat.{ℕ, ◌-◌, ◌*◌, ◌≤◌}
-use native.Mathlib.Omega.{arith}
-use borrow.Author.Rules.{rules}
+use Rattle.std.proofs.Common.{◌≡◌, sym, ap, ◌∙◌, ℕ, ◌-◌, ◌*◌, ◌≤◌, arith, rules}
 use Rattle.base.specs.Lists.{first_bad}
 use Rattle.base.specs.Sizes.{block_records}
 use Rattle.sheet.specs.Layout.{record_blocks}

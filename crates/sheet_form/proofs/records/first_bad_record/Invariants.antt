@@ -1,5 +1,4 @@
-use mathlib.Core.Path.{◌≡◌, sym, ap, ◌∙◌}
-use Prim.Native.Nat.{ℕ, ◌-◌, ◌*◌, ◌≤◌}
+use Rattle.std.proofs.Common.{◌≡◌, sym, ap, ◌∙◌, ℕ, ◌-◌, ◌*◌, ◌≤◌}
 use Rattle.base.specs.Lists.{first_bad}
 use Rattle.base.specs.Sizes.{block_records}
 use Rattle.sheet.specs.Layout.{record_blocks}

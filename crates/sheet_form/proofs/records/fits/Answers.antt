@@ -1,7 +1,5 @@
-use mathlib.Core.Bool.{◌&&◌}
-use mathlib.Core.Path.{sym, ap₂, ◌∙◌}
-use borrow.Author.Tests.{not-true, not-false}
-use borrow.Author.Rules.{rules}
+use Rattle.std.proofs.Common.{◌&&◌, sym, ap₂, ◌∙◌, rules}
+use Rattle.std.proofs.lemmas.Bool.{not-true, not-false}
 use Rattle.sheet_form.specs.RowLaws.{no_ranges, no_unused, lists_left}
 use Rattle.sheet_form.proofs.records.fits.Goals as goal
 

@@ -1,5 +1,4 @@
-use native.Mathlib.Omega.{arith}
-use borrow.Author.Rules.{rules}
+use Rattle.std.proofs.Common.{arith, rules}
 use Rattle.base.specs.ByteLaws.{number_more, number_end, bytes_eight}
 use Rattle.sheet_form.proofs.records.number_of.Goals as goal
 

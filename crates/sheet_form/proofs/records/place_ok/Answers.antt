@@ -1,5 +1,4 @@
-use mathlib.Core.Path.{◌∙◌}
-use borrow.Author.Rules.{rules}
+use Rattle.std.proofs.Common.{◌∙◌, rules}
 use Rattle.sheet.specs.Checks.{record_ok}
 use Rattle.sheet.specs.Layout.{decode}
 use Rattle.sheet_form.proofs.records.place_ok.Goals as goal

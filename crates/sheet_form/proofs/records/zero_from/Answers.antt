@@ -1,9 +1,4 @@
-use mathlib.Core.Path.{sym, ap, ◌∙◌}
-use Prim.Native.Nat.{ℕ, ◌*◌, ◌/◌, ◌^◌}
-use native.Mathlib.Omega.{arith}
-use borrow.Author.Rules.{rules}
-use lib.Dec.{eqb}
-use lib.ListN.{drop_of_length-le}
+use Rattle.std.proofs.Common.{sym, ap, ◌∙◌, ℕ, ◌*◌, ◌/◌, ◌^◌, arith, rules, eqb, drop_of_length-le}
 use Rattle.base.specs.Lists.{zeros}
 use Rattle.base.specs.ByteLaws.{zeros_shift}
 use Rattle.sheet_form.proofs.records.zero_from.Goals as goal

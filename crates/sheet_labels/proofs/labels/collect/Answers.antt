@@ -1,15 +1,9 @@
-use native.Mathlib.Omega.{arith}
-use mathlib.Core.Path.{sym, ap, ◌∙◌}
-use mathlib.Core.Logic.{⊎_elim}
-use Prim.Native.Nat.{◌-◌}
-use lib.Dec.{eqb}
-use lib.ListN.{set}
+use Rattle.std.proofs.Common.{arith, sym, ap, ◌∙◌, ⊎_elim, ◌-◌, eqb, set, rules}
 use Rattle.stackless_bytecode.specs.declared.Bytecode.{Bytecode}
 use Rattle.stackless_bytecode.specs.Kinds.{Label}
 use Rattle.sheet.specs.Layout.{code_of}
 use Rattle.sheet.specs.Shaped.{record_inside, code_at, code_size}
 use Rattle.sheet_labels.specs.LabelLaws.{Pass, pass_none, pass_skip, pass_stop, pass_more, labels_repeated, labels_count}
-use borrow.Author.Rules.{rules}
 use Rattle.sheet_labels.proofs.labels.collect.Goals as goal
 use Rattle.sheet_labels.proofs.labels.collect.Goals.{else-is_label, then-is_label+else-has_bit}
 

@@ -1,8 +1,4 @@
-use mathlib.Core.Path.{sym, ap, ◌∙◌}
-use mathlib.Core.Logic.{⊎_elim}
-use Prim.Native.Nat.{◌-◌}
-use lib.Dec.{eqb}
-use lib.ListN.{set}
+use Rattle.std.proofs.Common.{sym, ap, ◌∙◌, ⊎_elim, ◌-◌, eqb, set}
 use Rattle.stackless_bytecode.specs.declared.Bytecode.{Bytecode}
 use Rattle.stackless_bytecode.specs.Kinds.{Label}
 use Rattle.sheet.specs.Layout.{code_of}

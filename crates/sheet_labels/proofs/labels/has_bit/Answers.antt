@@ -1,10 +1,6 @@
-use mathlib.Core.Path.{ap}
-use Prim.Native.Nat.{ℕ, ◌/◌, ◌%◌, ◌^◌}
+use Rattle.std.proofs.Common.{ap, ℕ, ◌/◌, ◌%◌, ◌^◌, eqb, get_or, rules}
 use lib.Bits.{and_mask}
-use lib.Dec.{eqb}
-use lib.ListN.{get_or}
 use Rattle.dataflow_domains.specs.Mask.{bit, holds}
-use borrow.Author.Rules.{rules}
 use Rattle.sheet_labels.proofs.labels.has_bit.Goals as goal
 
 pub returns : goal.returns

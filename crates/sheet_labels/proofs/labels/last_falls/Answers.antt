@@ -1,8 +1,6 @@
-use mathlib.Core.Path.{sym, ap, ◌∙◌}
+use Rattle.std.proofs.Common.{sym, ap, ◌∙◌, arith, rules}
 use Rattle.stackless_bytecode.specs.Kinds.{falls_through}
 use Rattle.sheet.specs.Shaped.{record_inside, code_at}
-use native.Mathlib.Omega.{arith}
-use borrow.Author.Rules.{rules}
 use Rattle.sheet_labels.proofs.labels.last_falls.Goals as goal
 
 pub instruction_at-r-requires : goal.instruction_at-r-requires

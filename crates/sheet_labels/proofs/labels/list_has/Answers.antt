@@ -1,11 +1,6 @@
-use mathlib.Core.Path.{◌≡◌, refl}
-use mathlib.Core.Bool.{◌||◌}
-use Prim.Native.Nat.{◌-◌, ◌≤◌}
-use lib.ListN.{length, drop}
+use Rattle.std.proofs.Common.{◌≡◌, refl, ◌||◌, ◌-◌, ◌≤◌, length, drop, rules, arith}
 use Rattle.base.specs.Lists.{has}
 use Rattle.sheet_labels.specs.NameLaws.{list_more, list_end}
-use borrow.Author.Rules.{rules}
-use native.Mathlib.Omega.{arith}
 use Rattle.sheet_labels.proofs.labels.list_has.Goals as goal
 
 pub loop-i-preserved : goal.loop-i-preserved

@@ -1,7 +1,4 @@
-use mathlib.Core.Path.{◌≡◌, refl}
-use mathlib.Core.Bool.{◌||◌}
-use Prim.Native.Nat.{◌-◌, ◌≤◌}
-use lib.ListN.{length, drop}
+use Rattle.std.proofs.Common.{◌≡◌, refl, ◌||◌, ◌-◌, ◌≤◌, length, drop}
 use Rattle.base.specs.Lists.{has}
 use Rattle.sheet_labels.specs.NameLaws.{list_more, list_end}
 use Rattle.sheet_labels.proofs.labels.list_has.Given as goal

@@ -1,12 +1,5 @@
-use mathlib.Core.Path.{ap, ◌∙◌}
-use Prim.Native.Nat.{ℕ, ◌/◌, ◌%◌, ◌^◌}
-use native.Mathlib.Nat.{one-mul}
-use lib.Bits.{bit_or}
-use lib.ListN.{get_or, set}
-use lib.Pow.{shl_exact}
+use Rattle.std.proofs.Common.{ap, ◌∙◌, ℕ, ◌/◌, ◌%◌, ◌^◌, one-mul, bit_or, get_or, set, shl_exact, arith, rules}
 use Rattle.dataflow_domains.specs.Mask.{union}
-use native.Mathlib.Omega.{arith}
-use borrow.Author.Rules.{rules}
 use Rattle.sheet_labels.proofs.labels.put_bit.Goals as goal
 
 pub returns : goal.returns

@@ -1,7 +1,4 @@
-use mathlib.Core.Path.{sym, ap, ◌∙◌}
-use mathlib.Core.Logic.{⊎_elim}
-use Prim.Native.Nat.{◌-◌, ◌*◌}
-use lib.ListN.{length}
+use Rattle.std.proofs.Common.{sym, ap, ◌∙◌, ⊎_elim, ◌-◌, ◌*◌, length}
 use Rattle.base.specs.Lists.{has}
 use Rattle.sheet.specs.Layout.{code_of}
 use Rattle.sheet.specs.Shaped.{record_inside, code_size}

@@ -1,10 +1,6 @@
-use mathlib.Core.Path.{◌≡◌, sym, ◌∙◌}
-use Prim.Native.Nat.{◌+◌, ◌-◌}
-use lib.ListN.{length}
+use Rattle.std.proofs.Common.{◌≡◌, sym, ◌∙◌, ◌+◌, ◌-◌, length, rules, arith}
 use Rattle.sheet_labels.specs.Labelled.{Search}
 use Rattle.sheet_labels.specs.NameLaws.{search_none, search_part}
-use borrow.Author.Rules.{rules}
-use native.Mathlib.Omega.{arith}
 use Rattle.sheet_labels.proofs.labels.skip.Goals as goal
 
 pub loop-j-preserved : goal.loop-j-preserved

@@ -1,6 +1,4 @@
-use mathlib.Core.Path.{◌≡◌, sym, ◌∙◌}
-use Prim.Native.Nat.{◌+◌, ◌-◌}
-use lib.ListN.{length}
+use Rattle.std.proofs.Common.{◌≡◌, sym, ◌∙◌, ◌+◌, ◌-◌, length}
 use Rattle.sheet_labels.specs.Labelled.{Search}
 use Rattle.sheet_labels.specs.NameLaws.{search_none, search_part}
 use Rattle.sheet_labels.proofs.labels.skip.Given as goal

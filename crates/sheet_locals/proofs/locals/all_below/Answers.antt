@@ -1,10 +1,6 @@
-use mathlib.Core.Path.{◌≡◌, refl, sym, ◌∙◌}
-use Prim.Native.Nat.{◌-◌}
-use lib.Dec.{ltb}
-use lib.ListN.{take, drop}
+use Rattle.std.proofs.Common.{◌≡◌, refl, sym, ◌∙◌, ◌-◌, ltb, take, drop, rules}
 use Rattle.base.specs.Lists.{all}
 use Rattle.sheet_locals.specs.LocalLaws.{below_more, below_stop, below_end}
-use borrow.Author.Rules.{rules}
 use Rattle.sheet_locals.proofs.locals.all_below.Goals as goal
 
 pub returns-then-n-u8_to_usize : goal.returns-then-n-u8_to_usize

@@ -1,7 +1,4 @@
-use mathlib.Core.Path.{◌≡◌, refl, sym, ◌∙◌}
-use Prim.Native.Nat.{◌-◌}
-use lib.Dec.{ltb}
-use lib.ListN.{take, drop}
+use Rattle.std.proofs.Common.{◌≡◌, refl, sym, ◌∙◌, ◌-◌, ltb, take, drop}
 use Rattle.base.specs.Lists.{all}
 use Rattle.sheet_locals.specs.LocalLaws.{below_more, below_stop, below_end}
 use Rattle.sheet_locals.proofs.locals.all_below.Given as goal

@@ -1,9 +1,6 @@
-use mathlib.Core.Path.{refl, sym, ap, ◌∙◌}
-use Prim.Native.Nat.{ℕ}
-use borrow.Author.Tests.{not-true, not-false}
-use lib.Dec.{ltb}
+use Rattle.std.proofs.Common.{refl, sym, ap, ◌∙◌, ℕ, ltb, rules}
+use Rattle.std.proofs.lemmas.Bool.{not-true, not-false}
 use Rattle.sheet_locals.specs.LocalLaws.{locals_are}
-use borrow.Author.Rules.{rules}
 use Rattle.sheet_locals.proofs.locals.locals_ok.Goals as goal
 
 pub returns-then-not-all_below : goal.returns-then-not-all_below

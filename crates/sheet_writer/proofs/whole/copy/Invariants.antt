@@ -1,6 +1,4 @@
-use mathlib.Core.Path.{◌≡◌, refl}
-use Prim.Native.Nat.{◌≤◌, ◌-◌}
-use lib.ListN.{length}
+use Rattle.std.proofs.Common.{◌≡◌, refl, ◌≤◌, ◌-◌, length}
 use Rattle.base.specs.WriteLaws.{wrote}
 use Rattle.sheet_writer.specs.SheetLaws.{copy_more, copy_all}
 use Rattle.sheet_writer.proofs.whole.copy.Given as goal

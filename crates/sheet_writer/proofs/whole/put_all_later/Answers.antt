@@ -1,10 +1,6 @@
-use mathlib.Core.Path.{◌≡◌, refl, subst}
+use Rattle.std.proofs.Common.{◌≡◌, refl, subst, ℕ, ◌-◌, ◌≤◌, length, rules, arith}
 use Rattle.sheet_writer.specs.Written.{Blocks}
 use Rattle.sheet_writer.specs.SheetLaws.{later_by, blocks_none, blocks_more}
-use Prim.Native.Nat.{ℕ, ◌-◌, ◌≤◌}
-use lib.ListN.{length}
-use borrow.Author.Rules.{rules}
-use native.Mathlib.Omega.{arith}
 use Rattle.sheet_writer.proofs.whole.put_all_later.Goals as goal
 
 pub loop-b-init : goal.loop-b-init

@@ -1,8 +1,6 @@
-use mathlib.Core.Path.{◌≡◌, refl, subst}
+use Rattle.std.proofs.Common.{◌≡◌, refl, subst, ℕ, ◌-◌, ◌≤◌, length}
 use Rattle.sheet_writer.specs.Written.{Blocks}
 use Rattle.sheet_writer.specs.SheetLaws.{later_by, blocks_none, blocks_more}
-use Prim.Native.Nat.{ℕ, ◌-◌, ◌≤◌}
-use lib.ListN.{length}
 use Rattle.sheet_writer.proofs.whole.put_all_later.Given as goal
 
 abbrev pub invariant-loop-b : goal.invariant-loop-b

@@ -1,7 +1,5 @@
-use mathlib.Core.Path.{ap₂}
-use Prim.Native.Nat.{ℕ, ◌+◌, ◌%◌}
+use Rattle.std.proofs.Common.{ap₂, ℕ, ◌+◌, ◌%◌, rules}
 use Rattle.sheet_writer.specs.SheetLaws.{sealed}
-use borrow.Author.Rules.{rules}
 use Rattle.sheet_writer.proofs.whole.seal.Goals as goal
 
 pub returns : goal.returns

@@ -1,14 +1,9 @@
-use Prim.Native.Nat.{ℕ, ◌*◌}
+use Rattle.std.proofs.Common.{ℕ, ◌*◌, ◌++◌, drop, refl, ap, ◌∙◌, arith, rules}
 use Rattle.sheet.specs.Layout.{heading_rest, record_blocks, block_of}
 use Rattle.base.specs.Bytes.{bytes_of}
-use mathlib.Core.List.{◌++◌}
-use lib.ListN.{drop}
 use Rattle.base.specs.Sizes.{block_bytes}
 use Rattle.sheet_writer.specs.RecordsLaws.{tail_room}
 use Rattle.sheet_writer.specs.SheetLaws.{few_blocks, sheet_size, sheet_written, heading_rest_lem}
-use mathlib.Core.Path.{refl, ap, ◌∙◌}
-use native.Mathlib.Omega.{arith}
-use borrow.Author.Rules.{rules}
 use Rattle.sheet_writer.proofs.whole.write_sheet.Goals as goal
 
 pub put_all_later-requires : goal.put_all_later-requires

@@ -1,5 +1,5 @@
 use Rattle.sheet_writer.specs.WriterLaws.{record_written}
-use borrow.Author.Rules.{rules}
+use Rattle.std.proofs.Common.{rules}
 use Rattle.sheet_writer.proofs.writer.encode.Goals as goal
 
 pub returns : goal.returns

@@ -1,8 +1,6 @@
-use lib.ListN.{length-set}
+use Rattle.std.proofs.Common.{length-set, arith, rules}
 use Rattle.base.specs.WriteLaws.{fill}
 use Rattle.sheet_writer.specs.Written.{head_of}
-use native.Mathlib.Omega.{arith}
-use borrow.Author.Rules.{rules}
 use Rattle.sheet_writer.proofs.writer.put_head.Goals as goal
 
 pub returns : goal.returns

@@ -1,10 +1,7 @@
-use mathlib.Core.Path.{sym, ◌∙◌}
-use Prim.Native.Nat.{◌-◌}
-use lib.Seq.{take_all}
+use Rattle.std.proofs.Common.{sym, ◌∙◌, ◌-◌, take_all, zero-add}
 use Rattle.base.specs.Sizes.{list_places}
 use Rattle.base.specs.CopyLaws.{Copied, copied_none, copied_more, copied_all}
 use Rattle.sheet_writer.specs.EncodeLaws.{padded_full}
-use native.Mathlib.Nat.{zero-add}
 use Rattle.sheet_writer.proofs.writer.put_places.Given as goal
 
 abbrev pub invariant-loop-i : goal.invariant-loop-i

@@ -1,7 +1,4 @@
-use mathlib.Core.Path.{◌≡◌, ◌∙◌}
-use native.Mathlib.Omega.{arith}
-use borrow.Author.Rules.{rules}
-use borrow.Author.Tests.{ne_eqb}
+use Rattle.std.proofs.Common.{◌≡◌, ◌∙◌, arith, rules, ne_eqb}
 use Rattle.stackless_bytecode.specs.Kinds.{branch_dests, is_flagged}
 use Rattle.stackless_bytecode.proofs.Bytecode.name.Goals as goal
 

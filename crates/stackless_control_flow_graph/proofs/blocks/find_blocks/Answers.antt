@@ -1,17 +1,12 @@
 use Rattle.base.specs.Sizes.{max_instructions}
 use Rattle.sheet.specs.Layout.{code_of}
-use Prim.Native.Nat.{ℕ, ◌+◌}
+use Rattle.std.proofs.Common.{ℕ, ◌+◌, List, length, ◌≡◌, sym, ap, ◌∙◌, arith, rules}
 use Rattle.base.specs.ListLaws.{copies_at}
-use mathlib.Core.List.{List}
 use Rattle.stackless_bytecode.specs.declared.Bytecode.{Bytecode}
 use Rattle.stackless_control_flow_graph.specs.Arrays.{marked_in}
-use lib.ListN.{length}
-use mathlib.Core.Path.{◌≡◌, sym, ap, ◌∙◌}
 use Rattle.stackless_control_flow_graph.specs.Blocks.{blocks_of, lowers}
 use Rattle.stackless_control_flow_graph.specs.OffsetLaws.{marked_lowers}
 use Rattle.stackless_control_flow_graph.specs.CheckedSheetLaws.{checked_shaped, checked_size}
-use native.Mathlib.Omega.{arith}
-use borrow.Author.Rules.{rules}
 use Rattle.stackless_control_flow_graph.proofs.blocks.find_blocks.Goals as goal
 
 pub visit_all-requires : goal.visit_all-requires

@@ -1,12 +1,7 @@
 use Rattle.stackless_control_flow_graph.specs.OffsetLaws.{Upping, Between, between, uppers_begin, uppers_turn, uppers_end}
 use Rattle.stackless_control_flow_graph.specs.Arrays.{Marked}
 use Rattle.stackless_bytecode.specs.declared.Bytecode.{Bytecode}
-use lib.ListN.{length, length-set, get_or}
-use Prim.Native.Nat.{◌≤◌, ◌-◌}
-use mathlib.Core.List.{List}
-use mathlib.Core.Path.{◌≡◌, refl}
-use borrow.Author.Rules.{rules}
-use native.Mathlib.Omega.{arith}
+use Rattle.std.proofs.Common.{length, length-set, get_or, ◌≤◌, ◌-◌, List, ◌≡◌, refl, rules, arith}
 use Rattle.stackless_control_flow_graph.proofs.blocks.find_uppers.Goals as goal
 
 pub loop-k-init : goal.loop-k-init

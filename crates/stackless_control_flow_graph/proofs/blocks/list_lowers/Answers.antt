@@ -1,11 +1,6 @@
 use Rattle.stackless_control_flow_graph.specs.OffsetLaws.{marked_none, marked_more, listing_most}
 use Rattle.stackless_control_flow_graph.specs.Arrays.{marked_in}
-use lib.Seq.{length-take-le}
-use lib.ListN.{length, take}
-use Prim.Native.Nat.{◌≤◌, ◌-◌}
-use mathlib.Core.Path.{◌≡◌, refl, sym, ap, ◌∙◌}
-use borrow.Author.Rules.{rules}
-use native.Mathlib.Omega.{arith}
+use Rattle.std.proofs.Common.{length-take-le, length, take, ◌≤◌, ◌-◌, ◌≡◌, refl, sym, ap, ◌∙◌, rules, arith}
 use Rattle.stackless_control_flow_graph.proofs.blocks.list_lowers.Goals as goal
 
 pub loop-k-init : goal.loop-k-init

@@ -1,5 +1,4 @@
-use native.Mathlib.Omega.{arith}
-use borrow.Author.Rules.{rules}
+use Rattle.std.proofs.Common.{arith, rules}
 use Rattle.stackless_control_flow_graph.specs.GraphTableLaws.{found_ready, all_numbered}
 use Rattle.stackless_control_flow_graph.proofs.keys.find_keys.Goals as goal
 

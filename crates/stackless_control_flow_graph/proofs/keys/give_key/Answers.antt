@@ -1,6 +1,5 @@
 use Rattle.stackless_control_flow_graph.specs.KeyLaws.{give_none, give_some}
-use native.Mathlib.Omega.{arith}
-use borrow.Author.Rules.{rules}
+use Rattle.std.proofs.Common.{arith, rules}
 use Rattle.stackless_control_flow_graph.proofs.keys.give_key.Goals as goal
 
 pub returns-then-o-eq-NO_SUCCESSOR : goal.returns-then-o-eq-NO_SUCCESSOR

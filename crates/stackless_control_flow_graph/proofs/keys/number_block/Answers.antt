@@ -1,7 +1,5 @@
-use mathlib.Core.Path.{◌∙◌}
+use Rattle.std.proofs.Common.{◌∙◌, arith, rules}
 use Rattle.stackless_control_flow_graph.specs.KeyLaws.{gives_block}
-use native.Mathlib.Omega.{arith}
-use borrow.Author.Rules.{rules}
 use Rattle.stackless_control_flow_graph.proofs.keys.number_block.Goals as goal
 
 pub returns : goal.returns

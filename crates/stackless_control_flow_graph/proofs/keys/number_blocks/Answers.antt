@@ -1,12 +1,8 @@
-use mathlib.Core.Path.{◌≡◌, refl, ◌∙◌}
-use Prim.Native.Nat.{◌≤◌, ◌-◌}
-use lib.ListN.{length, take}
+use Rattle.std.proofs.Common.{◌≡◌, refl, ◌∙◌, ◌≤◌, ◌-◌, length, take, rules, arith}
 use Rattle.base.specs.Numbering.{Gives}
 use Rattle.base.specs.Lists.{gather}
 use Rattle.stackless_control_flow_graph.specs.KeyLaws.{keys_begin, keys_more, block_lower, block_near}
 use Rattle.stackless_control_flow_graph.specs.Arrays.{first_key, takers}
-use borrow.Author.Rules.{rules}
-use native.Mathlib.Omega.{arith}
 use Rattle.stackless_control_flow_graph.proofs.keys.number_blocks.Goals as goal
 
 pub loop-b-init : goal.loop-b-init

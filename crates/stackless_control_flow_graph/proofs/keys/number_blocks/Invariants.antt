@@ -1,6 +1,4 @@
-use mathlib.Core.Path.{◌≡◌, refl, ◌∙◌}
-use Prim.Native.Nat.{◌≤◌, ◌-◌}
-use lib.ListN.{length, take}
+use Rattle.std.proofs.Common.{◌≡◌, refl, ◌∙◌, ◌≤◌, ◌-◌, length, take}
 use Rattle.base.specs.Numbering.{Gives}
 use Rattle.base.specs.Lists.{gather}
 use Rattle.stackless_control_flow_graph.specs.KeyLaws.{keys_begin, keys_more, block_lower, block_near}

@@ -1,14 +1,9 @@
-use mathlib.Core.Path.{◌≡◌, refl}
-use mathlib.Core.List.{List}
-use Prim.Native.Nat.{ℕ, ◌-◌, ◌≤◌, ◌<◌}
-use lib.ListN.{get_or, length, length-set}
+use Rattle.std.proofs.Common.{◌≡◌, refl, List, ℕ, ◌-◌, ◌≤◌, ◌<◌, get_or, length, length-set, rules, arith}
 use Rattle.stackless_bytecode.specs.declared.Bytecode.{Bytecode}
 use Rattle.stackless_bytecode.specs.Sound.{Sound}
 use Rattle.stackless_control_flow_graph.specs.Blocks.{keyed}
 use Rattle.stackless_control_flow_graph.specs.Arrays.{key_in}
 use Rattle.stackless_control_flow_graph.specs.SpreadLaws.{Spreading, spread_begin, spread_more}
-use borrow.Author.Rules.{rules}
-use native.Mathlib.Omega.{arith}
 use Rattle.stackless_control_flow_graph.proofs.keys.spread_keys.Goals as goal
 use Rattle.stackless_control_flow_graph.proofs.keys.spread_keys.Invariants.{SpreadTo}
 

@@ -1,7 +1,4 @@
-use mathlib.Core.Path.{◌≡◌, refl}
-use mathlib.Core.List.{List}
-use Prim.Native.Nat.{ℕ, ◌-◌, ◌≤◌, ◌<◌}
-use lib.ListN.{get_or, length, length-set}
+use Rattle.std.proofs.Common.{◌≡◌, refl, List, ℕ, ◌-◌, ◌≤◌, ◌<◌, get_or, length, length-set}
 use Rattle.stackless_bytecode.specs.declared.Bytecode.{Bytecode}
 use Rattle.stackless_bytecode.specs.Sound.{Sound}
 use Rattle.stackless_control_flow_graph.specs.Blocks.{keyed}

@@ -1,6 +1,5 @@
 use Rattle.stackless_control_flow_graph.specs.KeyLaws.{with_none, with_first, with_second}
-use native.Mathlib.Omega.{arith}
-use borrow.Author.Rules.{rules}
+use Rattle.std.proofs.Common.{arith, rules}
 use Rattle.stackless_control_flow_graph.proofs.keys.with_key.Goals as goal
 
 pub returns-then-o-eq-NO_OFFSET : goal.returns-then-o-eq-NO_OFFSET

@@ -1,9 +1,6 @@
-use lib.ListN.{length-set}
+use Rattle.std.proofs.Common.{length-set, refl, arith, rules}
 use mathlib.Core.List.Memᴰ
-use mathlib.Core.Path.{refl}
 use Rattle.stackless_control_flow_graph.specs.StartLaws.{first_in, second_in, mark_none, mark_one, mark_two}
-use native.Mathlib.Omega.{arith}
-use borrow.Author.Rules.{rules}
 use Rattle.stackless_control_flow_graph.proofs.starts.mark_starts.Goals as goal
 
 pub bounds-marks-next : goal.bounds-marks-next

@@ -1,12 +1,8 @@
-use mathlib.Core.Path.{◌≡◌, refl, ◌∙◌}
-use Prim.Native.Nat.{◌≤◌, ◌-◌}
-use lib.ListN.{length, length-set}
+use Rattle.std.proofs.Common.{◌≡◌, refl, ◌∙◌, ◌≤◌, ◌-◌, length, length-set, rules, arith}
 use Rattle.sheet.specs.Layout.{code_of}
 use Rattle.stackless_control_flow_graph.specs.CheckedSheetLaws.{checked_once, checked_size, marks_begin}
 use Rattle.stackless_control_flow_graph.specs.StartLaws.{marks_end}
 use Rattle.stackless_control_flow_graph.specs.Arrays.{SuccessorsTo, Marking}
-use borrow.Author.Rules.{rules}
-use native.Mathlib.Omega.{arith}
 use Rattle.stackless_control_flow_graph.proofs.starts.visit_all.Goals as goal
 
 pub loop-k-init : goal.loop-k-init

@@ -1,6 +1,4 @@
-use mathlib.Core.Path.{◌≡◌, refl, ◌∙◌}
-use Prim.Native.Nat.{◌≤◌, ◌-◌}
-use lib.ListN.{length, length-set}
+use Rattle.std.proofs.Common.{◌≡◌, refl, ◌∙◌, ◌≤◌, ◌-◌, length, length-set}
 use Rattle.sheet.specs.Layout.{code_of}
 use Rattle.stackless_control_flow_graph.specs.CheckedSheetLaws.{checked_once, checked_size, marks_begin}
 use Rattle.stackless_control_flow_graph.specs.StartLaws.{marks_end}

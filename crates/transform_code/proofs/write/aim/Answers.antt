@@ -1,8 +1,6 @@
-use mathlib.Core.Path.{◌∙◌}
+use Rattle.std.proofs.Common.{◌∙◌, arith, rules}
 use Rattle.livevar_transform.specs.NumberLaws.{wide_below, label_one, label_two}
 use Rattle.livevar_transform.specs.NewCodeLaws.{aimed_by}
-use native.Mathlib.Omega.{arith}
-use borrow.Author.Rules.{rules}
 use Rattle.transform_code.proofs.write.aim.Goals as goal
 
 pub returns : goal.returns

@@ -1,9 +1,8 @@
-use mathlib.Core.Path.{sym, ◌∙◌}
-use borrow.Author.Tests.{eqb-true, eqb-false}
+use Rattle.std.proofs.Common.{sym, ◌∙◌, eqb-true, rules}
+use Rattle.std.proofs.lemmas.Bool.{eqb-false}
 use Rattle.dataflow_domains.specs.SetLaws.{array, mask_small}
 use Rattle.livevar_transform.specs.NumberLaws.{some_lost}
 use Rattle.livevar_transform.specs.NewCodeLaws.{goes_old, goes_new}
-use borrow.Author.Rules.{rules}
 use Rattle.transform_code.proofs.write.goes_to.Goals as goal
 
 pub returns-then-is_empty : goal.returns-then-is_empty

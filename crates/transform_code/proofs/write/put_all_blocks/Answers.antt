@@ -1,6 +1,4 @@
-use mathlib.Core.Path.{◌≡◌, refl, ap}
-use Prim.Native.Nat.{ℕ, ◌*◌, ◌-◌, ◌≤◌}
-use lib.ListN.{length}
+use Rattle.std.proofs.Common.{◌≡◌, refl, ap, ℕ, ◌*◌, ◌-◌, ◌≤◌, length, rules, arith}
 use Rattle.base.specs.Sizes.{record_bytes}
 use Rattle.base.specs.Lists.{joins}
 use Rattle.sheet.specs.Layout.{code_of}
@@ -10,8 +8,6 @@ use Rattle.livevar_transform.specs.Rewrite.{block_size}
 use Rattle.livevar_transform.specs.Plan.{lost_at, numbers_at, added_by}
 use Rattle.livevar_transform.specs.NumberLaws.{numbers_first, numbers_small, numbers_next, written_is, block_inside, block_fits}
 use Rattle.livevar_transform.specs.NewCodeLaws.{pieces_none, added_pieces, pieces_end}
-use borrow.Author.Rules.{rules}
-use native.Mathlib.Omega.{arith}
 use Rattle.transform_code.proofs.write.put_all_blocks.Goals as goal
 
 pub loop-e-init : goal.loop-e-init

@@ -1,6 +1,4 @@
-use mathlib.Core.Path.{◌≡◌, refl, ap}
-use Prim.Native.Nat.{ℕ, ◌*◌, ◌-◌, ◌≤◌}
-use lib.ListN.{length}
+use Rattle.std.proofs.Common.{◌≡◌, refl, ap, ℕ, ◌*◌, ◌-◌, ◌≤◌, length}
 use Rattle.base.specs.Sizes.{record_bytes}
 use Rattle.base.specs.Lists.{joins}
 use Rattle.sheet.specs.Layout.{code_of}

@@ -1,6 +1,4 @@
-use mathlib.Core.Path.{◌≡◌, refl, ap}
-use Prim.Native.Nat.{ℕ, ◌*◌, ◌-◌, ◌≤◌}
-use lib.ListN.{length, length-drop}
+use Rattle.std.proofs.Common.{◌≡◌, refl, ap, ℕ, ◌*◌, ◌-◌, ◌≤◌, length, length-drop, rules, arith}
 use Rattle.base.specs.Sizes.{record_bytes}
 use Rattle.base.specs.Lists.{joins}
 use Rattle.sheet.specs.Layout.{code_of}
@@ -9,8 +7,6 @@ use Rattle.sheet_writer.specs.RecordsLaws.{tail_is}
 use Rattle.livevar_transform.specs.Plan.{numbers_at, kept_by}
 use Rattle.livevar_transform.specs.NumberLaws.{numbers_first, numbers_small, numbers_both, labels_fit}
 use Rattle.livevar_transform.specs.NewCodeLaws.{joins_none, pieces_none, kept_pieces, kept_long, pieces_end}
-use borrow.Author.Rules.{rules}
-use native.Mathlib.Omega.{arith}
 use Rattle.transform_code.proofs.write.put_all_kept.Goals as goal
 
 pub loop-k-init : goal.loop-k-init

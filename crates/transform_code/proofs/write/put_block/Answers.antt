@@ -1,11 +1,8 @@
-use mathlib.Core.Path.{refl, ap, ap₂, ◌∙◌}
-use Prim.Native.Nat.{ℕ}
-use mathlib.Core.List.{[]}
+use Rattle.std.proofs.Common.{refl, ap, ap₂, ◌∙◌, ℕ, [], rules}
 use Rattle.sheet.specs.Layout.{encode}
 use Rattle.stackless_bytecode.specs.Kinds.{Label, Jump}
 use Rattle.livevar_transform.specs.Rewrite.{made}
 use Rattle.livevar_transform.specs.NewCodeLaws.{block_written}
-use borrow.Author.Rules.{rules}
 use Rattle.transform_code.proofs.write.put_block.Goals as goal
 
 pub returns : goal.returns

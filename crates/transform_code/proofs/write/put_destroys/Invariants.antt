@@ -1,12 +1,9 @@
 use Rattle.stackless_bytecode.specs.Kinds.{Call, Destroy}
-use mathlib.Core.List.{[], ◌∷◌}
+use Rattle.std.proofs.Common.{[], ◌∷◌, ◌≡◌, refl, sym, ap, ◌∙◌, eqb-true, ℕ, length}
 use Rattle.sheet.specs.Layout.{encode}
 use Rattle.livevar_transform.specs.Rewrite.{made}
-use mathlib.Core.Path.{◌≡◌, refl, sym, ap, ◌∙◌}
-use borrow.Author.Tests.{eqb-true, eqb-false, not-true, not-false}
+use Rattle.std.proofs.lemmas.Bool.{eqb-false, not-true, not-false}
 use Rattle.dataflow_domains.specs.SetLaws.{array, mask_small}
-use Prim.Native.Nat.{ℕ}
-use lib.ListN.{length}
 use Rattle.base.specs.Sizes.{max_locals}
 use Rattle.dataflow_domains.specs.Sets.{mask}
 use Rattle.dataflow_domains.specs.Members.{members}

@@ -1,9 +1,8 @@
-use mathlib.Core.Path.{sym, ◌∙◌}
-use borrow.Author.Tests.{eqb-true, eqb-false}
+use Rattle.std.proofs.Common.{sym, ◌∙◌, eqb-true, rules}
+use Rattle.std.proofs.lemmas.Bool.{eqb-false}
 use Rattle.dataflow_domains.specs.SetLaws.{array, mask_small}
 use Rattle.livevar_transform.specs.NumberLaws.{wide_below, past_as, block_room}
 use Rattle.livevar_transform.specs.NewCodeLaws.{block_on_lem, block_none}
-use borrow.Author.Rules.{rules}
 use Rattle.transform_code.proofs.write.put_edge.Goals as goal
 
 pub returns-then-is_empty : goal.returns-then-is_empty

@@ -1,12 +1,8 @@
-use mathlib.Core.Path.{sym, ap, ◌∙◌}
-use mathlib.Core.List.{List}
-use lib.ListN.{length}
+use Rattle.std.proofs.Common.{sym, ap, ◌∙◌, List, length, arith, rules}
 use Rattle.sheet_writer.specs.Written.{placed}
 use Rattle.sheet_writer.specs.RecordsLaws.{placed_one, placed_none}
 use Rattle.stackless_bytecode.specs.declared.Bytecode.{Bytecode}
 use Rattle.livevar_transform.specs.NewCodeLaws.{kept_in, kept_out}
-use native.Mathlib.Omega.{arith}
-use borrow.Author.Rules.{rules}
 use Rattle.transform_code.proofs.write.put_kept.Goals as goal
 
 pub returns-then-fates-k-eq-DROPPED : goal.returns-then-fates-k-eq-DROPPED

@@ -1,8 +1,6 @@
-use mathlib.Core.Path.{sym, ◌∙◌}
+use Rattle.std.proofs.Common.{sym, ◌∙◌, arith, rules}
 use Rattle.livevar_analysis.specs.InputLaws.{code_at, record_inside}
 use Rattle.livevar_transform.specs.NewCodeLaws.{stands_branch, stands_merged, stands_plain}
-use native.Mathlib.Omega.{arith}
-use borrow.Author.Rules.{rules}
 use Rattle.transform_code.proofs.write.stands_for.Goals as goal
 
 pub instruction_at-r-requires : goal.instruction_at-r-requires

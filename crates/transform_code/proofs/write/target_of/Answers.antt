@@ -1,6 +1,6 @@
 use Rattle.livevar_analysis.specs.InputLaws.{record_inside}
 use Rattle.livevar_transform.specs.NewCodeLaws.{target_then, target_else}
-use native.Mathlib.Omega.{arith}
+use Rattle.std.proofs.Common.{arith}
 use Rattle.transform_code.proofs.write.target_of.Goals as goal
 
 pub instruction_at-r-requires : goal.instruction_at-r-requires

@@ -1,6 +1,4 @@
-use mathlib.Core.Path.{ap}
-use Prim.Native.Nat.{ℕ, ◌*◌}
-use lib.ListN.{length}
+use Rattle.std.proofs.Common.{ap, ℕ, ◌*◌, length, rules, arith}
 use Rattle.base.specs.Sizes.{record_bytes}
 use Rattle.base.specs.Lists.{joins}
 use Rattle.sheet.specs.Layout.{code_of}
@@ -8,8 +6,6 @@ use Rattle.sheet_writer.specs.RecordsLaws.{tail_room}
 use Rattle.livevar_transform.specs.Plan.{added_by}
 use Rattle.livevar_transform.specs.NumberLaws.{code_parts}
 use Rattle.livevar_transform.specs.NewCodeLaws.{all_written}
-use borrow.Author.Rules.{rules}
-use native.Mathlib.Omega.{arith}
 use Rattle.transform_code.proofs.write.transform_code.Goals as goal
 
 pub returns : goal.returns

@@ -1,11 +1,9 @@
-use mathlib.Core.Path.{refl, sym, ◌∙◌}
-use borrow.Author.Tests.{eqb-true, eqb-false}
+use Rattle.std.proofs.Common.{refl, sym, ◌∙◌, eqb-true, arith, rules}
+use Rattle.std.proofs.lemmas.Bool.{eqb-false}
 use Rattle.base.specs.Sizes.{max_locals}
 use Rattle.dataflow_domains.specs.MaskLaws.{ones_bound}
 use Rattle.dataflow_domains.specs.SetLaws.{array, mask_small}
 use Rattle.livevar_transform.specs.NumberLaws.{past_none, past_some}
-use native.Mathlib.Omega.{arith}
-use borrow.Author.Rules.{rules}
 use Rattle.livevar_transform.proofs.plan.Next.past.Goals as goal
 
 pub returns-then-is_empty : goal.returns-then-is_empty
