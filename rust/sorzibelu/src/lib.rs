@@ -1,4 +1,4 @@
-//! Sheets, live sets and dying nodes: safe calls over the proved archive (crates/c_api).
+//! Sheets, live sets and dying nodes: safe calls over the proved archive (crates/c_api_c).
 //!
 //! A sheet is a slice of bytes, a graph three values; every call takes any slices at all, and answers as documents 01 and 02 have it. There are two
 //! forms of each call:
@@ -27,7 +27,7 @@
 //!
 //! | check | flow | live | live class | rewrite | renumber | label | livelist | page | in use, conditional, dying |
 //! |---|---|---|---|---|---|---|---|---|---|
-//! | 16.1 KiB | 17.3 KiB | 187.5 KiB | 187.6 KiB | 203.5 KiB | 45.3 KiB | 16.2 KiB | 203.6 KiB | 239.6 KiB | below 1 KiB |
+//! | 16.1 KiB | 17.2 KiB | 187.4 KiB | 187.5 KiB | 203.4 KiB | 45.4 KiB | 16.2 KiB | 203.4 KiB | 239.5 KiB | below 1 KiB |
 #![warn(missing_docs)]
 mod calls;
 mod ffi;
