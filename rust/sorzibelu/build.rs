@@ -54,7 +54,8 @@ fn proved(root: &Path) -> PathBuf {
     }
     let done = Command::new(root.join("tools/archive")).output();
     match done.as_ref().map(|d| d.status.code()) {
-        Err(_) | Ok(Some(127)) => fail(&format!(
+        Err(e) => fail(&format!("tools/archive cannot be run: {e}")),
+        Ok(Some(127)) => fail(&format!(
             "The proved archive has to be built, and the Rattle toolchain (rt) is not on the PATH.\n\
              Put rt on the PATH, or set {VARIABLE} to the path of a libc_api.a that was built elsewhere (tools/archive)."
         )),

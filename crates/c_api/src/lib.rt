@@ -1,4 +1,4 @@
-// The calls that a marking service links, as C functions: each takes any slices, and returns number * 2^32 + value. Assumes nothing.
+// The calls that a marking service links, each with its answer in one number: each takes any slices, and returns number * 2^32 + value. c_api_c exports them to C. Assumes nothing.
 #![tactic(auto)]
 
 ghost use Rattle.std.specs.Prelude.{◌≡◌, eqb, length, take};

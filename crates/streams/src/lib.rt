@@ -1,7 +1,8 @@
 // A reader, such as standard input, read to its end. Assumes nothing.
 #![tactic(auto)]
 
-ghost use Rattle.std.specs.Prelude.{◌≡◌, ◌≤◌, length, IfOk};
+ghost use Rattle.std.specs.Prelude.{◌≡◌, ◌≤◌, length, IfOk, IfErr};
+ghost use Rattle.streams.specs.declared.Input.TheVariants.{Bytes, Failed};
 ghost use Rattle.streams.specs.Input.{bytes_read};
 
 use std::io;
@@ -17,7 +18,8 @@ pub enum Input {
 impl Input {
     // How many bytes, for a program that ends where a read failed.
     pub fn count(self) -> io::Result<usize>
-        ensures { IfOk result (λ n. n ≡ bytes_read self) }
+        ensures read { IfOk result (λ n. self ≡ Bytes n) }
+        ensures failed { IfErr result (λ _. self ≡ Failed) }
     {
         match self {
             Input::Bytes(n) => Ok(n),
