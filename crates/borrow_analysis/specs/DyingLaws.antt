@@ -5,7 +5,7 @@ use mathlib.Core.List.Memᴰ
 use mathlib.Core.List.{Memᴰ}
 use Rattle.std.specs.Int.Count.{ones}
 use Rattle.std.proofs.Math.Pow.{pow-lt}
-use Rattle.base.specs.Lists.{over, one}
+use Rattle.base.specs.Lists.{over}
 use Rattle.base.specs.ListLaws.{by_test, by_eq, or-false, or-true, distinct_snoc}
 use Rattle.base.specs.TabLaws.{over_keeps}
 use Rattle.dataflow_domains.specs.Mask.{bit, holds, union, Sub}

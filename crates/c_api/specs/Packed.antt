@@ -1,6 +1,6 @@
 -- A call's result in one number, as the marking service reads it. Assumes nothing.
 use Rattle.std.specs.Prelude.{ℕ, ◌+◌, ◌*◌, List, []}
-use Rattle.base.specs.Refusals.{Reply, Done, Result, result_of, reply}
+use Rattle.base.specs.Refusals.{Reply, Done, Result, reply}
 use Rattle.sheet.specs.Checks.{check_sheet}
 
 -- number * 2^32 + value

@@ -2,7 +2,7 @@
 use Rattle.std.specs.Prelude.{◌≡◌, refl, Bool, true, false, not, ◌||◌, ◌&&◌, ℕ, ◌^◌, ◌<◌, eqb, ltb, get_or, length, List, [], ◌∷◌, map}
 use Rattle.std.proofs.Common.{sym, ap, ◌∙◌, subst, ⊎_elim, true≢false, arith, ltb-true, lt-ltb, eqb-true, eq-eqb, ne_eqb, ap₂}
 use mathlib.Core.List.{Memᴰ}
-use Rattle.base.specs.Lists.{keep, has, Distinct}
+use Rattle.base.specs.Lists.{keep, Distinct}
 use Rattle.base.specs.ListLaws.{or-true, and-true, by_test, by_eq, has_in, find_in, in_keep}
 use Rattle.dataflow_domains.specs.Mask.{holds, union, minus, set_of}
 use Rattle.dataflow_domains.specs.MaskLaws.{bit_empty, set_of_lt}

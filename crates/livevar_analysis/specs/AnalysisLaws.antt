@@ -6,7 +6,7 @@ use mathlib.Core.List.{Memᴰ}
 use Rattle.std.proofs.lemmas.List.{length-map}
 use Rattle.dataflow_domains.specs.Mask.{bit, unions, Sub}
 use Rattle.dataflow_domains.specs.MaskLaws.{sub_eq, sub_trans, sub_antisymm, sub_empty, bit_empty, unions_in, unions_least, unions_one, sub_by, sub_at}
-use Rattle.dataflow_analysis.specs.Worklist.{State, set_at, Met, begin, run}
+use Rattle.dataflow_analysis.specs.Worklist.{State, set_at, Met, begin}
 use Rattle.dataflow_analysis.specs.QueueLaws.{run_longer}
 use Rattle.dataflow_analysis.specs.Lattice.{masks}
 use Rattle.dataflow_analysis.specs.MaskListLaws.{MaskGraph, MaskNarrow, Source, MaskBest, best}

@@ -4,7 +4,6 @@ use Rattle.std.proofs.Common.{sym, ap, ap₂, ◌∙◌, subst, mod-lt, arith, e
 use mathlib.Core.List.{Memᴰ}
 use Rattle.std.specs.Int.Bits.{bit_and}
 use Rattle.base.specs.Sizes.{max_locals, set_words}
-use Rattle.base.specs.Lists.{count}
 use Rattle.base.specs.ListLaws.{by_test, by_eq}
 use Rattle.dataflow_domains.specs.Mask.{minus}
 use Rattle.dataflow_domains.specs.MaskLaws.{ext, bit_and_lem, bit_minus, bit_lt}
@@ -25,7 +24,7 @@ use Rattle.livevar_transform.specs.Plan.{Ready, sides_at, fate_of, lost_by, Edge
 use Rattle.sheet.specs.LabelLaws.{code_below}
 use Rattle.sheet.specs.FormLaws.{accepted_shaped}
 use Rattle.dataflow_domains.specs.StoredLaws.{stored_here, stored_other}
-use Rattle.livevar_transform.specs.PlanLaws.{sides_are, size, here, long, room_at}
+use Rattle.livevar_transform.specs.PlanLaws.{sides_are, size, here, room_at}
 
 -- ---- lost references
 

@@ -12,7 +12,7 @@ use Rattle.stackless_bytecode.specs.Kinds.{Assign, Call, Load, Jump, Label, Dest
 use Rattle.livevar_analysis.specs.Analysis.{LiveVarInfo}
 use Rattle.livevar_transform.specs.Rewrite.{made, destroys, destroy_block, block_size, info_at, is_dead, is_merged, is_dropped, highest, next_free_label}
 use Rattle.base.specs.ListLaws.{by_test, gather_in, get_d_in, and-true}
-use Rattle.base.specs.JoinLaws.{by_lt, get_d_behind, count_in, count_out, count_mono, count_lt, count_one}
+use Rattle.base.specs.JoinLaws.{by_lt, get_d_behind, count_in, count_out, count_mono, count_lt}
 use Rattle.stackless_bytecode.specs.KindLaws.{assign_falls, load_falls, assign_names, load_names}
 
 -- ---- the numbers that come next

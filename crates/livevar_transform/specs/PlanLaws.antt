@@ -3,7 +3,6 @@ use Rattle.std.specs.Prelude.{◌≡◌, ◌⊎◌, Bool, true, false, ◌&&◌,
 use Rattle.std.proofs.Common.{sym, ap, ap₂, ◌∙◌, subst, inl, inr, ⊎_elim, zero-add, suc-add, add-one, arith, eq-eqb, ne_eqb, take-take, drop-drop}
 use Rattle.std.proofs.Math.Seq.{take-nil}
 use Rattle.base.specs.Sizes.{set_bytes, pair_bytes, max_locals, max_instructions, record_bytes, block_bytes}
-use Rattle.base.specs.Lists.{count}
 use Rattle.base.specs.Bytes.{number, part}
 use Rattle.base.specs.ListLaws.{by_test, get_d_tab}
 use Rattle.dataflow_domains.specs.Mask.{holds}

@@ -4,7 +4,6 @@ use Rattle.std.proofs.Common.{ap, sym, ◌∙◌, subst, ⊎_elim, true≢false,
 use mathlib.Core.List.Memᴰ
 use mathlib.Core.List.{Memᴰ}
 use Rattle.stackless_bytecode.specs.declared.Bytecode.{Bytecode}
-use Rattle.base.specs.Lists.{has}
 use Rattle.stackless_bytecode.specs.Kinds.{Branch, Jump, Label, nop, at, is_flagged, stop_ok, falls_through, branch_dests, label_of}
 use Rattle.stackless_bytecode.specs.Successors.{Unique}
 use Rattle.stackless_bytecode.specs.Labels.{label_offset}

@@ -1,7 +1,6 @@
 -- A sheet with a heading that keeps to its layout, and any code, is accepted where the code meets checks 4, 18 and 5 to 8. Assumes nothing.
 use Rattle.std.specs.Prelude.{◌≡◌, Bool, ◌||◌, ◌&&◌, get_or, drop, length, refl, true, false, cond, List, ℕ, zero, suc, ◌+◌, ◌-◌, ◌*◌, ◌/◌, ◌%◌, ◌^◌, ◌≤◌, ◌<◌, eqb}
 use Rattle.std.proofs.Common.{sym, ap, ap₂, ◌∙◌, subst, eq-eqb, le-leb, lt-ltb, le-ltb, length-take, length-drop, get_or-take, get_or-drop, arith}
-use Rattle.std.proofs.Math.Option.{some}
 use Rattle.stackless_bytecode.specs.declared.Bytecode.{Bytecode}
 use Rattle.base.specs.Sizes.{set_bytes, refs_at, block_bytes, record_bytes, records_from, block_records, max_blocks, max_bytes}
 use Rattle.base.specs.Refusals.{Accepted}

@@ -1,10 +1,10 @@
 -- Readings of class sets, by computation: the checks of the whole and their order, refused sheets between others, sheets glued and sheets cut in two. Assumes nothing.
-use Rattle.std.specs.Prelude.{◌≡◌, refl, List, [], ◌∷◌, ◌++◌, ℕ, ◌+◌, ◌*◌, ◌-◌, set, replicate}
+use Rattle.std.specs.Prelude.{◌≡◌, refl, List, [], ◌∷◌, ◌++◌, ℕ, ◌*◌, ◌-◌, set, replicate}
 use Rattle.base.specs.Sizes.{block_bytes, max_sheets, slot_bytes, answer_numbers}
 use Rattle.base.specs.Lists.{tab, gather}
 use Rattle.base.specs.Refusals.{Reply, No, Done}
-use Rattle.class_set.specs.ClassSet.{starts_of, sheet_at, answers_reply}
-use Rattle.worked.specs.Samples.{m1, m2, m4}
+use Rattle.class_set.specs.ClassSet.{starts_of, answers_reply}
+use Rattle.worked.specs.Samples.{m1, m2}
 use Rattle.worked.specs.Opened.{opened}
 
 -- the numbers that a class set gets where so many bytes and numbers are lent as m sheets need

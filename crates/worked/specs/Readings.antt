@@ -4,7 +4,7 @@ use Rattle.std.proofs.Common.{arith}
 use Rattle.base.specs.Sizes.{set_bytes, block_bytes, max_bytes}
 use Rattle.base.specs.Lists.{tab, gather}
 use Rattle.base.specs.Bytes.{bytes_of}
-use Rattle.base.specs.Refusals.{Accepted, Refused, No, Done}
+use Rattle.base.specs.Refusals.{Refused, No, Done}
 use Rattle.stackless_bytecode.specs.declared.Bytecode.{Bytecode}
 use Rattle.stackless_bytecode.specs.Kinds.{at, Stop, Destroy, IsParent, WriteBack}
 use Rattle.stackless_bytecode.specs.declared.Lookup.TheVariants.{Named, Unnamed, Undefined}
@@ -20,7 +20,7 @@ use Rattle.label.specs.LabelCall.{label_reply}
 use Rattle.eliminate_unused_vars.specs.Renumber.{renumber_reply}
 use Rattle.livevar_transform.specs.Rewrite.{transform_code, rewrite_reply}
 use Rattle.borrow_analysis.specs.Borrows.{in_use_reply, conditional_reply, dying_reply}
-use Rattle.worked.specs.Samples.{heading_of, plain, flagged, m1, m2_unnamed, assign, call, ret, load, branch, jump, label, abort, Not, ReadRef}
+use Rattle.worked.specs.Samples.{heading_of, plain, flagged, m1, m2_unnamed, assign, call, ret, load, branch, jump, label, Not, ReadRef}
 use Rattle.worked.specs.Worked.{sets}
 use Rattle.worked.specs.Opened.{opened}
 

@@ -1,5 +1,5 @@
 -- The paper's worked sheets M1 to M8, proved together by one statement, `worked`, by computation. Assumes nothing.
-use Rattle.std.specs.Prelude.{◌≡◌, refl, ℕ, List, [], ◌∷◌, length}
+use Rattle.std.specs.Prelude.{◌≡◌, refl, ℕ, List, [], ◌∷◌}
 use Rattle.base.specs.Sizes.{max_bytes}
 use Rattle.base.specs.Bytes.{u16_at}
 use Rattle.base.specs.Refusals.{Accepted, Done}

@@ -1,7 +1,5 @@
-use Rattle.agreement.specs.PairLaws.{pairs_more, pairs_all, inside_set}
-use Rattle.base.specs.WriteLaws.{wrote}
-use Rattle.agreement.specs.Agree.{pairs}
-use Rattle.std.proofs.Common.{◌+◌, ◌*◌, ◌-◌, ◌≤◌, ◌≡◌, length, rules, arith}
+use Rattle.agreement.specs.PairLaws.{pairs_more, pairs_all}
+use Rattle.std.proofs.Common.{rules, arith}
 use Rattle.agreement.proofs.bytes_of.Goals as goal
 
 pub loop-i-preserved : goal.loop-i-preserved

@@ -1,7 +1,6 @@
-use Rattle.agreement.specs.PairLaws.{pairs_more, pairs_all, inside_set}
 use Rattle.base.specs.WriteLaws.{wrote}
 use Rattle.agreement.specs.Agree.{pairs}
-use Rattle.std.proofs.Common.{◌+◌, ◌*◌, ◌-◌, ◌≤◌, ◌≡◌, length}
+use Rattle.std.proofs.Common.{◌*◌, ◌-◌, ◌≤◌, ◌≡◌, length}
 use Rattle.agreement.proofs.bytes_of.Given as goal
 
 abbrev pub invariant-loop-i : goal.invariant-loop-i

@@ -1,5 +1,4 @@
-use Rattle.std.proofs.Common.{◌≡◌, refl, ap, List, ℕ, ◌-◌, ◌<◌, ◌≤◌, length, get_or, ext_get_or, below_none, below_more}
-use Rattle.agreement.specs.AgreeLaws.{never}
+use Rattle.std.proofs.Common.{◌≡◌, ℕ, ◌-◌, ◌<◌, ◌≤◌, length, get_or}
 use Rattle.agreement.proofs.same_numbers.Given as goal
 
 abbrev pub invariant-loop-i : goal.invariant-loop-i

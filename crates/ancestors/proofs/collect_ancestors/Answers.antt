@@ -1,8 +1,6 @@
-use Rattle.std.proofs.Common.{rules, arith, le_refl, ◌≡◌, sym, ◌∙◌, length}
-use Rattle.dataflow_domains.specs.Sets.{mask}
+use Rattle.std.proofs.Common.{arith, le_refl, ◌≡◌, sym, ◌∙◌}
 use Rattle.borrow_analysis.specs.AncestorLaws.{collect_skip}
 use Rattle.borrow_analysis.specs.VisitLaws.{written_same}
-use Rattle.ancestors.specs.Walking.{steps_left, WalkSoFar}
 use Rattle.ancestors.proofs.WalkingLaws.{put_room, put_going, going_shorter, walk_none, walk_step, walk_whole}
 use Rattle.ancestors.proofs.collect_ancestors.Goals as goal
 

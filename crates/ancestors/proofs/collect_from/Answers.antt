@@ -1,13 +1,9 @@
-use Rattle.std.proofs.Common.{rules, eqb-true, arith, refl, sym, ◌∙◌, subst, ℕ, ◌<◌}
-use Rattle.std.proofs.lemmas.Bool.{eqb-false, not-true, not-false}
+use Rattle.std.proofs.Common.{eqb-true, arith, refl, sym, ◌∙◌, subst, ℕ, ◌<◌}
 use Rattle.dataflow_domains.specs.MemberLaws.{lowest_lt, walk_falls}
 use Rattle.dataflow_domains.specs.Sets.{mask}
-use Rattle.borrow_analysis.specs.Visiting.{StartVisits}
 use Rattle.borrow_analysis.specs.AcceptedLaws.{inside_wider}
-use Rattle.borrow_analysis.specs.VisitLaws.{below_fits, starts_none, starts_more, starts_all}
-use Rattle.ancestors.specs.Walking.{resting, Going}
+use Rattle.borrow_analysis.specs.VisitLaws.{below_fits, starts_more, starts_all}
 use Rattle.ancestors.specs.ChainLaws.{firsts_none}
-use Rattle.ancestors.proofs.WalkingLaws.{begins}
 use Rattle.ancestors.proofs.collect_from.Goals as goal
 
 pub chain-requires : goal.chain-requires

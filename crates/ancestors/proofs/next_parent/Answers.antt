@@ -1,10 +1,7 @@
-use Rattle.std.proofs.Common.{rules, arith, sym, ap, ◌∙◌, ◌-◌}
-use Rattle.std.proofs.lemmas.Bool.{not-true, not-false}
-use Rattle.dataflow_domains.specs.Sets.{mask}
+use Rattle.std.proofs.Common.{sym, ap, ◌∙◌}
 use Rattle.ancestors.specs.Ancestors.{passed_over}
-use Rattle.ancestors.specs.Walking.{ScansOn}
 use Rattle.ancestors.specs.ChainLaws.{next_of}
-use Rattle.ancestors.proofs.WalkingLaws.{scans_none, scans_more}
+use Rattle.ancestors.proofs.WalkingLaws.{scans_more}
 use Rattle.ancestors.proofs.next_parent.Goals as goal
 
 pub loop-i-preserved : goal.loop-i-preserved

@@ -1,10 +1,6 @@
-use Rattle.std.proofs.lemmas.Bool.{not-true, not-false}
-use Rattle.std.proofs.Common.{sym, ap, ◌∙◌, ◌-◌}
+use Rattle.std.proofs.Common.{◌-◌}
 use Rattle.dataflow_domains.specs.Sets.{mask}
-use Rattle.ancestors.specs.Ancestors.{passed_over}
 use Rattle.ancestors.specs.Walking.{ScansOn}
-use Rattle.ancestors.specs.ChainLaws.{next_of}
-use Rattle.ancestors.proofs.WalkingLaws.{scans_none, scans_more}
 use Rattle.ancestors.proofs.next_parent.Given as goal
 
 abbrev pub invariant-loop-i : goal.invariant-loop-i

@@ -1,5 +1,4 @@
-use Rattle.std.proofs.Common.{rules, arith, ◌≡◌, sym, ap, ◌∙◌, subst}
-use Rattle.borrow_analysis.specs.AcceptedLaws.{inside_wider}
+use Rattle.std.proofs.Common.{arith, ◌≡◌, sym, ap, ◌∙◌, subst}
 use Rattle.borrow_analysis.specs.VisitLaws.{parent_below}
 use Rattle.ancestors.specs.Ancestors.{passed_over}
 use Rattle.ancestors.specs.Walking.{Scanned}

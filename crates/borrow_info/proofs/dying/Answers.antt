@@ -1,4 +1,4 @@
-use Rattle.std.proofs.Common.{arith, sym, ap, ◌∙◌, subst, length-take-le, rules}
+use Rattle.std.proofs.Common.{sym, ap, ◌∙◌, subst, length-take-le}
 use Rattle.base.specs.declared.Refusal.TheVariants.{OutputShort}
 use Rattle.base.specs.Refusals.{verdict_of}
 use Rattle.base.specs.ReplyLaws.{refuses, refused_number}

@@ -1,4 +1,4 @@
-use Rattle.std.proofs.Common.{arith, sym, ap, ◌∙◌, Bool, cond, [], rules}
+use Rattle.std.proofs.Common.{arith, sym, ap, ◌∙◌, Bool, cond, []}
 use Rattle.base.specs.Refusals.{verdict_of}
 use Rattle.base.specs.ReplyLaws.{refuses, done_result, refused_number}
 use Rattle.base.specs.RefusalLaws.{accepted_by}

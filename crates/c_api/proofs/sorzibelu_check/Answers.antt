@@ -1,4 +1,4 @@
-use Rattle.std.proofs.Common.{rules, sym, ap, ◌∙◌}
+use Rattle.std.proofs.Common.{sym, ap, ◌∙◌}
 use Rattle.base.specs.Refusals.{verdict_of}
 use Rattle.c_api.specs.Packed.{packed}
 use Rattle.c_api.specs.PackedLaws.{check_accepted, check_refused}

@@ -1,4 +1,4 @@
-use Rattle.std.proofs.Common.{◌≡◌, sym, ap, ◌∙◌, true, false, rules}
+use Rattle.std.proofs.Common.{◌≡◌, sym, ap, ◌∙◌, true, false}
 use Rattle.dataflow_domains.specs.Sets.{mask, is_changed}
 use Rattle.dataflow_analysis.specs.Queue.{news_at}
 use Rattle.dataflow_analysis.specs.ReceiptLaws.{news_first, news_again, received_news, received_none}

@@ -1,5 +1,5 @@
 use Rattle.base.specs.ByteLaws.{number_more, number_end}
-use Rattle.std.proofs.Common.{arith, rules}
+use Rattle.std.proofs.Common.{arith}
 use Rattle.dataflow_domains.proofs.get_word.Goals as goal
 
 pub returns : goal.returns

@@ -1,5 +1,5 @@
 use Rattle.dataflow_domains.specs.MemberLaws.{less_lowest}
-use Rattle.std.proofs.Common.{arith, rules}
+use Rattle.std.proofs.Common.{arith}
 use Rattle.dataflow_domains.proofs.less.Goals as goal
 
 pub returns : goal.returns

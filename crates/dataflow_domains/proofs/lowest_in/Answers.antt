@@ -1,5 +1,5 @@
-use Rattle.std.proofs.Common.{refl, ℕ, ◌<◌, ◌^◌, arith, rules}
-use lib.Count.{count_trailing_zeros, trailing_le}
+use Rattle.std.proofs.Common.{refl, ℕ, ◌<◌, ◌^◌, arith}
+use lib.Count.{count_trailing_zeros}
 use Rattle.dataflow_domains.specs.MemberLaws.{trailing_lowest, lowest_lt}
 use Rattle.dataflow_domains.proofs.lowest_in.Goals as goal
 

@@ -1,4 +1,4 @@
-use Rattle.std.proofs.Common.{sym, ◌∙◌, [], ◌∷◌, ◌/◌, ◌%◌, length-set, arith, rules}
+use Rattle.std.proofs.Common.{sym, ◌∙◌, [], ◌∷◌, ◌/◌, ◌%◌}
 use Rattle.base.specs.WriteLaws.{fill}
 use Rattle.dataflow_domains.specs.ByteWords.{word_bytes}
 use Rattle.dataflow_domains.proofs.put_word.Goals as goal

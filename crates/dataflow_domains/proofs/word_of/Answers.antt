@@ -1,4 +1,4 @@
-use Rattle.std.proofs.Common.{◌∙◌, ◌^◌, ◌%◌, one-mul, shl_exact, arith, rules}
+use Rattle.std.proofs.Common.{◌∙◌, ◌^◌, ◌%◌, one-mul, shl_exact, arith}
 use Rattle.dataflow_domains.specs.SetLaws.{lone_here, lone_else}
 use Rattle.dataflow_domains.proofs.word_of.Goals as goal
 

@@ -1,11 +1,10 @@
-use Rattle.std.proofs.Common.{◌≡◌, sym, ap, ◌∙◌, ◌+◌, ◌-◌, ◌*◌, ◌≤◌, arith, rules, length}
-use Rattle.base.specs.Sizes.{block_bytes, block_records}
-use Rattle.base.specs.Lists.{first_bad}
-use Rattle.base.specs.SearchLaws.{bad_start, bad_end}
+use Rattle.std.proofs.Common.{sym, ap, ◌∙◌, ◌+◌, ◌*◌, ◌≤◌, arith, rules, length}
+use Rattle.base.specs.Sizes.{block_bytes}
+use Rattle.base.specs.SearchLaws.{bad_end}
 use Rattle.base.specs.Refusals.{found_of}
-use Rattle.stackless_bytecode.specs.Kinds.{at, stop_ok}
-use Rattle.sheet.specs.Layout.{record_blocks, code_of}
-use Rattle.sheet.specs.ByBlocks.{few_records, pass_block, stop_block}
+use Rattle.stackless_bytecode.specs.Kinds.{stop_ok}
+use Rattle.sheet.specs.Layout.{record_blocks}
+use Rattle.sheet.specs.ByBlocks.{pass_block, stop_block}
 use Rattle.sheet_stops.proofs.first_bad_stop.Goals as goal
 
 pub returns-in_default : goal.returns-in_default

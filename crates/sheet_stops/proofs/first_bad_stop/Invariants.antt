@@ -1,11 +1,8 @@
-use Rattle.std.proofs.Common.{◌≡◌, sym, ap, ◌∙◌, ◌+◌, ◌-◌, ◌*◌, ◌≤◌, length}
-use Rattle.base.specs.Sizes.{block_bytes, block_records}
+use Rattle.std.proofs.Common.{◌≡◌, ◌-◌, ◌*◌}
+use Rattle.base.specs.Sizes.{block_records}
 use Rattle.base.specs.Lists.{first_bad}
-use Rattle.base.specs.SearchLaws.{bad_start, bad_end}
-use Rattle.base.specs.Refusals.{found_of}
 use Rattle.stackless_bytecode.specs.Kinds.{at, stop_ok}
-use Rattle.sheet.specs.Layout.{record_blocks, code_of}
-use Rattle.sheet.specs.ByBlocks.{few_records, pass_block, stop_block}
+use Rattle.sheet.specs.Layout.{code_of}
 use Rattle.sheet_stops.proofs.first_bad_stop.Given as goal
 
 abbrev pub invariant-loop-from : goal.invariant-loop-from

@@ -1,7 +1,5 @@
-use Rattle.std.proofs.Common.{◌≡◌, sym, ap, ◌∙◌, List, ℕ, ◌+◌, ◌-◌, ◌*◌, ◌≤◌, arith, rules}
-use Rattle.std.proofs.lemmas.Bool.{not-true, not-false}
+use Rattle.std.proofs.Common.{◌≡◌, sym, ap, ◌∙◌, List, ℕ, ◌+◌, ◌-◌, ◌*◌, arith, rules}
 use Rattle.base.specs.Sizes.{records_from, record_bytes}
-use Rattle.base.specs.Lists.{first_bad}
 use Rattle.base.specs.SearchLaws.{bad_more, bad_stop, bad_end}
 use Rattle.base.specs.Refusals.{found_of}
 use Rattle.stackless_bytecode.specs.Kinds.{stop_ok}

@@ -1,13 +1,8 @@
-use Rattle.std.proofs.Common.{◌≡◌, sym, ap, ◌∙◌, List, ℕ, ◌+◌, ◌-◌, ◌*◌, ◌≤◌}
-use Rattle.std.proofs.lemmas.Bool.{not-true, not-false}
-use Rattle.base.specs.Sizes.{records_from, record_bytes}
+use Rattle.std.proofs.Common.{◌≡◌, ◌+◌, ◌-◌, ◌≤◌}
 use Rattle.base.specs.Lists.{first_bad}
-use Rattle.base.specs.SearchLaws.{bad_more, bad_stop, bad_end}
-use Rattle.base.specs.Refusals.{found_of}
 use Rattle.stackless_bytecode.specs.Kinds.{stop_ok}
 use Rattle.sheet.specs.Layout.{decode}
 use Rattle.sheet.specs.InBlock.{record_in}
-use Rattle.sheet.specs.ByBlocks.{record_is}
 use Rattle.sheet_stops.proofs.first_in.Given as goal
 
 abbrev pub invariant-loop-k : goal.invariant-loop-k

@@ -1,4 +1,4 @@
-use Rattle.std.proofs.Common.{sym, ap, ap₂, ◌∙◌, Bool, not, ◌&&◌, rules}
+use Rattle.std.proofs.Common.{sym, ap, ap₂, ◌∙◌, Bool, not, ◌&&◌}
 use Rattle.stackless_bytecode.specs.Kinds.{is_flagged, stop_ok}
 use Rattle.sheet.specs.Layout.{decode}
 use Rattle.sheet_stops.proofs.stop_ok.Goals as goal

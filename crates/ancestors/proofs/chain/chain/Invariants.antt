@@ -1,6 +1,5 @@
-use Rattle.std.proofs.Common.{◌≡◌, refl, sym, ◌∙◌, ◌/◌, ◌≤◌, length}
+use Rattle.std.proofs.Common.{◌≡◌, ◌/◌, ◌≤◌, length}
 use Rattle.ancestors.specs.Chains.{Chained, Firsts}
-use Rattle.ancestors.specs.ChainLaws.{chain_none, chain_on, chain_all}
 use Rattle.ancestors.proofs.chain.chain.Given as goal
 
 abbrev pub invariant-loop-left : goal.invariant-loop-left

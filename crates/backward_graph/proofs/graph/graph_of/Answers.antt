@@ -1,4 +1,4 @@
-use Rattle.std.proofs.Common.{◌∙◌, arith, rules}
+use Rattle.std.proofs.Common.{◌∙◌, arith}
 use Rattle.stackless_control_flow_graph.specs.CheckedSheetLaws.{checked_shaped}
 use Rattle.stackless_control_flow_graph.specs.GraphTableLaws.{few_blocks, keys_ready, some_keys, low_keys, graph_tables}
 use Rattle.backward_graph.proofs.graph.graph_of.Goals as goal

@@ -1,5 +1,4 @@
-use Rattle.std.proofs.Common.{◌≡◌, refl, sym, ap, ◌∙◌, List, ℕ, ◌+◌, ◌-◌, ◌≤◌, ◌<◌, get_or, length, set, get_or-set_same, get_or-set_other}
-use Rattle.base.specs.ListLaws.{by_eq}
+use Rattle.std.proofs.Common.{◌≡◌, ℕ, ◌-◌, ◌≤◌, ◌<◌, get_or, length}
 use Rattle.backward_graph.proofs.graph.pick_each.Given as goal
 
 abbrev pub invariant-loop-i : goal.invariant-loop-i

@@ -1,9 +1,7 @@
-use Rattle.std.proofs.Common.{rules, arith, sym, ◌∙◌, subst, ℕ, ◌<◌, eqb-true}
-use Rattle.std.proofs.lemmas.Bool.{eqb-false, not-true, not-false}
+use Rattle.std.proofs.Common.{arith, sym, ◌∙◌, subst, ℕ, ◌<◌, eqb-true}
 use Rattle.dataflow_domains.specs.MemberLaws.{walk_falls}
 use Rattle.dataflow_domains.specs.Sets.{mask}
-use Rattle.borrow_analysis.specs.GraphParts.{KeptFrom}
-use Rattle.borrow_analysis.specs.GraphLaws.{kept_all, kept_less, kept_none, kept_one}
+use Rattle.borrow_analysis.specs.GraphLaws.{kept_less, kept_none, kept_one}
 use Rattle.borrow_analysis.proofs.graph.all_below.Goals as goal
 
 pub returns-then-u8_to_usize-count : goal.returns-then-u8_to_usize-count

@@ -1,9 +1,5 @@
-use Rattle.std.proofs.Common.{sym, ◌∙◌, subst, ℕ, ◌<◌, eqb-true}
-use Rattle.std.proofs.lemmas.Bool.{eqb-false, not-true, not-false}
-use Rattle.dataflow_domains.specs.MemberLaws.{walk_falls}
 use Rattle.dataflow_domains.specs.Sets.{mask}
 use Rattle.borrow_analysis.specs.GraphParts.{KeptFrom}
-use Rattle.borrow_analysis.specs.GraphLaws.{kept_all, kept_less, kept_none, kept_one}
 use Rattle.borrow_analysis.proofs.graph.all_below.Given as goal
 
 abbrev pub invariant-loop-left : goal.invariant-loop-left

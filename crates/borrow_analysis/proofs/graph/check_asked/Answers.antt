@@ -1,4 +1,4 @@
-use Rattle.std.proofs.Common.{rules, sym, ◌∙◌}
+use Rattle.std.proofs.Common.{sym, ◌∙◌}
 use Rattle.base.specs.RefusalLaws.{then_goes, refused_by, accepted_by}
 use Rattle.borrow_analysis.specs.Graph.{check_asked}
 use Rattle.borrow_analysis.specs.GraphLaws.{first_graph}

@@ -1,4 +1,4 @@
-use Rattle.std.proofs.Common.{rules, sym, ◌∙◌}
+use Rattle.std.proofs.Common.{sym, ◌∙◌}
 use Rattle.base.specs.RefusalLaws.{accepted_none, refused_at}
 use Rattle.borrow_analysis.specs.GraphLaws.{moved_whole, moved_fine}
 use Rattle.borrow_analysis.proofs.graph.check_nodes.Goals as goal

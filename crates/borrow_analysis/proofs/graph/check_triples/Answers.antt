@@ -1,4 +1,4 @@
-use Rattle.std.proofs.Common.{arith, rules, sym, ◌∙◌}
+use Rattle.std.proofs.Common.{arith, sym, ◌∙◌}
 use Rattle.base.specs.RefusalLaws.{found_at, found_none, refused_at, accepted_none}
 use Rattle.borrow_analysis.specs.GraphLaws.{place_small, moved_at, moved_none}
 use Rattle.borrow_analysis.proofs.graph.check_triples.Goals as goal

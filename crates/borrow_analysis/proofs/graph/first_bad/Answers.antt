@@ -1,10 +1,6 @@
-use Rattle.std.proofs.Common.{◌-◌, ◌/◌, ◌≤◌, ℕ, ◌≡◌, sym, ap, ◌∙◌, length, rules, arith}
-use Rattle.base.specs.Lists.{first_bad}
+use Rattle.std.proofs.Common.{sym, ap, ◌∙◌, arith}
 use Rattle.base.specs.Refusals.{found_of}
-use Rattle.borrow_analysis.specs.Graph.{triple_ok}
-use Rattle.std.proofs.Math.Nat.{sub-zero}
 use Rattle.base.specs.SearchLaws.{bad_more, bad_stop, bad_end}
-use Rattle.std.proofs.lemmas.Bool.{not-true, not-false}
 use Rattle.borrow_analysis.proofs.graph.first_bad.Goals as goal
 
 pub returns-then-not-triple_ok : goal.returns-then-not-triple_ok

@@ -1,10 +1,6 @@
-use Rattle.std.proofs.Common.{◌-◌, ◌/◌, ◌≤◌, ℕ, ◌≡◌, sym, ap, ◌∙◌, length}
+use Rattle.std.proofs.Common.{◌-◌, ◌/◌, ◌≤◌, ◌≡◌, length}
 use Rattle.base.specs.Lists.{first_bad}
-use Rattle.base.specs.Refusals.{found_of}
 use Rattle.borrow_analysis.specs.Graph.{triple_ok}
-use Rattle.std.proofs.Math.Nat.{sub-zero}
-use Rattle.base.specs.SearchLaws.{bad_more, bad_stop, bad_end}
-use Rattle.std.proofs.lemmas.Bool.{not-true, not-false}
 use Rattle.borrow_analysis.proofs.graph.first_bad.Given as goal
 
 abbrev pub invariant-loop-i : goal.invariant-loop-i

@@ -1,4 +1,4 @@
-use Rattle.std.proofs.Common.{arith, rules}
+use Rattle.std.proofs.Common.{arith}
 use Rattle.dataflow_domains.specs.Sets.{mask}
 use Rattle.dataflow_domains.specs.Words.{mask_of}
 use Rattle.borrow_analysis.proofs.graph.live_set.Goals as goal

@@ -1,4 +1,4 @@
-use Rattle.std.proofs.Common.{ap, ◌∙◌, ℕ, ◌^◌, ltb, rules}
+use Rattle.std.proofs.Common.{ap, ◌∙◌, ℕ, ◌^◌, ltb}
 use Rattle.borrow_analysis.specs.GraphLaws.{nodes_many, nodes_few}
 use Rattle.borrow_analysis.proofs.graph.nodes_ok.Goals as goal
 

@@ -1,4 +1,4 @@
-use Rattle.std.proofs.Common.{rules, lt-ltb, le-ltb, eq-eqb, ne_eqb, refl, sym, ap, ◌∙◌, true, false, ltb}
+use Rattle.std.proofs.Common.{lt-ltb, le-ltb, eq-eqb, ne_eqb, refl, sym, ap, ◌∙◌, true, false, ltb}
 use Rattle.borrow_analysis.specs.declared.triples.Triple.{Triple}
 use Rattle.borrow_analysis.specs.Graph.{rank}
 use Rattle.borrow_analysis.specs.GraphLaws.{triple_is}

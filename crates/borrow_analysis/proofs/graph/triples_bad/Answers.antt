@@ -1,4 +1,4 @@
-use Rattle.std.proofs.Common.{ap, ◌∙◌, rules}
+use Rattle.std.proofs.Common.{ap, ◌∙◌}
 use Rattle.base.specs.Refusals.{found_of}
 use Rattle.borrow_analysis.specs.GraphLaws.{length_odd, length_over, length_fine}
 use Rattle.borrow_analysis.proofs.graph.triples_bad.Goals as goal

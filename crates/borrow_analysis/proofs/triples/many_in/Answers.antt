@@ -1,10 +1,6 @@
-use Rattle.std.proofs.Common.{rules, arith, ⊎_elim, ◌≡◌, refl, ap, ◌∙◌, ◌-◌, ◌≤◌, length}
-use Rattle.base.specs.Lists.{tab}
-use Rattle.base.specs.Sizes.{max_locals}
+use Rattle.std.proofs.Common.{rules, arith, refl, ap, ◌∙◌}
 use Rattle.dataflow_domains.specs.Sets.{mask}
-use Rattle.borrow_analysis.specs.Graph.{triple_at}
-use Rattle.borrow_analysis.specs.GraphParts.{IncomingCounted}
-use Rattle.borrow_analysis.specs.TripleLaws.{counted_none, counted_more, counted_new, counted_all}
+use Rattle.borrow_analysis.specs.TripleLaws.{counted_none, counted_more, counted_new}
 use Rattle.borrow_analysis.proofs.triples.many_in.Goals as goal
 use Rattle.borrow_analysis.proofs.triples.many_in.Goals.{else-last-at, then-last-at}
 

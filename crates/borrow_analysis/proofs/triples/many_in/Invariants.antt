@@ -1,10 +1,9 @@
-use Rattle.std.proofs.Common.{⊎_elim, ◌≡◌, refl, ap, ◌∙◌, ◌-◌, ◌≤◌, length}
+use Rattle.std.proofs.Common.{◌≡◌, ◌-◌, ◌≤◌, length}
 use Rattle.base.specs.Lists.{tab}
 use Rattle.base.specs.Sizes.{max_locals}
 use Rattle.dataflow_domains.specs.Sets.{mask}
 use Rattle.borrow_analysis.specs.Graph.{triple_at}
 use Rattle.borrow_analysis.specs.GraphParts.{IncomingCounted}
-use Rattle.borrow_analysis.specs.TripleLaws.{counted_none, counted_more, counted_new, counted_all}
 use Rattle.borrow_analysis.proofs.triples.many_in.Given as goal
 
 abbrev pub invariant-loop-i : goal.invariant-loop-i

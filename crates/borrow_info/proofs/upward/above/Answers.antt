@@ -1,6 +1,4 @@
-use Rattle.std.proofs.Common.{◌≡◌, sym, ap, ◌∙◌, ℕ, ◌+◌, ◌-◌, ◌≤◌, eqb-true, rules, arith}
-use Rattle.std.proofs.Math.Nat.{sub-zero}
-use Rattle.dataflow_domains.specs.Sets.{mask}
+use Rattle.std.proofs.Common.{sym, ap, ◌∙◌, ◌+◌, ◌-◌, eqb-true, arith}
 use Rattle.borrow_analysis.specs.Graph.{triples_of}
 use Rattle.borrow_analysis.specs.Borrows.{upward}
 use Rattle.borrow_analysis.specs.UpwardLaws.{upward_fixed, upward_more, upward_end}

@@ -1,9 +1,7 @@
-use Rattle.std.proofs.Common.{◌≡◌, sym, ap, ◌∙◌, ℕ, ◌+◌, ◌-◌, ◌≤◌, eqb-true}
-use Rattle.std.proofs.Math.Nat.{sub-zero}
+use Rattle.std.proofs.Common.{◌≡◌, ◌-◌, ◌≤◌}
 use Rattle.dataflow_domains.specs.Sets.{mask}
 use Rattle.borrow_analysis.specs.Graph.{triples_of}
 use Rattle.borrow_analysis.specs.Borrows.{upward}
-use Rattle.borrow_analysis.specs.UpwardLaws.{upward_fixed, upward_more, upward_end}
 use Rattle.borrow_info.proofs.upward.above.Given as goal
 
 abbrev pub invariant-loop-k : goal.invariant-loop-k

@@ -1,7 +1,5 @@
-use Rattle.std.proofs.Common.{rules, arith, ⊎_elim, ap, ◌∙◌, ◌-◌, ◌≤◌}
+use Rattle.std.proofs.Common.{rules, arith, ap, ◌∙◌}
 use Rattle.dataflow_domains.specs.Sets.{mask}
-use Rattle.borrow_analysis.specs.Graph.{triple_at}
-use Rattle.borrow_analysis.specs.GraphParts.{ParentsAdded}
 use Rattle.borrow_analysis.specs.UpwardLaws.{added_none, added_more, added_same, added_all}
 use Rattle.borrow_info.proofs.upward.parents_in.Goals as goal
 use Rattle.borrow_info.proofs.upward.parents_in.Goals.{else-has, then-has}

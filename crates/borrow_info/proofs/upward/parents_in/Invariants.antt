@@ -1,8 +1,7 @@
-use Rattle.std.proofs.Common.{⊎_elim, ap, ◌∙◌, ◌-◌, ◌≤◌}
+use Rattle.std.proofs.Common.{◌-◌, ◌≤◌}
 use Rattle.dataflow_domains.specs.Sets.{mask}
 use Rattle.borrow_analysis.specs.Graph.{triple_at}
 use Rattle.borrow_analysis.specs.GraphParts.{ParentsAdded}
-use Rattle.borrow_analysis.specs.UpwardLaws.{added_none, added_more, added_same, added_all}
 use Rattle.borrow_info.proofs.upward.parents_in.Given as goal
 
 abbrev pub invariant-loop-i : goal.invariant-loop-i

@@ -1,4 +1,4 @@
-use Rattle.std.proofs.Common.{sym, arith, rules}
+use Rattle.std.proofs.Common.{sym, arith}
 use Rattle.class_set.specs.ClassLaws.{bad_length, no_length, good_length, first_zero, first_other, class_length, class_first, class_many, class_short, class_answers, class_passes}
 use Rattle.class_set.proofs.check.check_class.Goals as goal
 

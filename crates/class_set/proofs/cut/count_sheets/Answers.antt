@@ -1,6 +1,6 @@
-use Rattle.std.proofs.Common.{◌≡◌, sym, ap, ◌∙◌, ⊎_elim, ◌+◌, ◌-◌, ◌≤◌, ◌<◌, arith, length, rules}
-use Rattle.class_set.specs.ClassSet.{blocks_in, sheets_in}
-use Rattle.class_set.specs.CutLaws.{starts_from, from_start, count_here, starts_pass, starts_end}
+use Rattle.std.proofs.Common.{sym, ap, ◌∙◌, ◌<◌, arith, length}
+use Rattle.class_set.specs.ClassSet.{blocks_in}
+use Rattle.class_set.specs.CutLaws.{from_start, count_here, starts_pass, starts_end}
 use Rattle.class_set.proofs.cut.count_sheets.Goals as goal
 use Rattle.class_set.proofs.cut.count_sheets.Goals.{else-starts_at, then-starts_at}
 

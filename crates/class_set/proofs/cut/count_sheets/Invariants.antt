@@ -1,6 +1,6 @@
-use Rattle.std.proofs.Common.{◌≡◌, sym, ap, ◌∙◌, ⊎_elim, ◌+◌, ◌-◌, ◌≤◌, ◌<◌, length}
-use Rattle.class_set.specs.ClassSet.{blocks_in, sheets_in}
-use Rattle.class_set.specs.CutLaws.{starts_from, from_start, count_here, starts_pass, starts_end}
+use Rattle.std.proofs.Common.{◌≡◌, ◌+◌, ◌-◌, ◌≤◌, length}
+use Rattle.class_set.specs.ClassSet.{sheets_in}
+use Rattle.class_set.specs.CutLaws.{starts_from}
 use Rattle.class_set.proofs.cut.count_sheets.Given as goal
 
 abbrev pub invariant-loop-b : goal.invariant-loop-b

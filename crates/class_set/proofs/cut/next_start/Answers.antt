@@ -1,6 +1,6 @@
-use Rattle.std.proofs.Common.{◌≡◌, sym, ap, ◌∙◌, List, ℕ, ◌-◌, ◌≤◌, arith, get_or, rules}
+use Rattle.std.proofs.Common.{sym, ap, ◌∙◌, List, ℕ, arith, get_or, rules}
 use Rattle.class_set.specs.ClassSet.{blocks_in}
-use Rattle.class_set.specs.CutLaws.{first_from, first_here, starts_pass, starts_end}
+use Rattle.class_set.specs.CutLaws.{first_here, starts_pass, starts_end}
 use Rattle.class_set.proofs.cut.next_start.Goals as goal
 
 pub returns-then-starts_at : goal.returns-then-starts_at

@@ -1,6 +1,5 @@
-use Rattle.std.proofs.Common.{◌≡◌, sym, ap, ◌∙◌, List, ℕ, ◌-◌, ◌≤◌, get_or}
-use Rattle.class_set.specs.ClassSet.{blocks_in}
-use Rattle.class_set.specs.CutLaws.{first_from, first_here, starts_pass, starts_end}
+use Rattle.std.proofs.Common.{◌≡◌, ◌-◌, ◌≤◌}
+use Rattle.class_set.specs.CutLaws.{first_from}
 use Rattle.class_set.proofs.cut.next_start.Given as goal
 
 abbrev pub invariant-loop-b : goal.invariant-loop-b

@@ -1,4 +1,4 @@
-use Rattle.std.proofs.Common.{ap, ℕ, eqb, rules}
+use Rattle.std.proofs.Common.{ap, ℕ, eqb}
 use Rattle.class_set.specs.ClassSet.{starts_at}
 use Rattle.class_set.proofs.cut.starts_at.Goals as goal
 

@@ -1,4 +1,4 @@
-use Rattle.std.proofs.Common.{refl, rules}
+use Rattle.std.proofs.Common.{refl}
 use Rattle.dataflow_analysis.specs.QueueLaws.{put_list}
 use Rattle.dataflow_analysis.proofs.Cursor.put.Goals as goal
 

@@ -1,4 +1,4 @@
-use Rattle.std.proofs.Common.{sym, ap, List, ℕ, arith, rules}
+use Rattle.std.proofs.Common.{sym, ap, List, ℕ, arith}
 use Rattle.dataflow_analysis.specs.Queue.{taken_of}
 use Rattle.dataflow_analysis.specs.QueueLaws.{list_none, take_first}
 use Rattle.dataflow_analysis.proofs.Cursor.take.Goals as goal

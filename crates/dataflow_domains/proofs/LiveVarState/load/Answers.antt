@@ -1,8 +1,8 @@
-use Rattle.std.proofs.Common.{refl, ap, ◌-◌, ◌*◌, rules, arith}
+use Rattle.std.proofs.Common.{ap, ◌*◌, arith}
 use Rattle.dataflow_domains.specs.Sets.{mask, stored_set}
 use Rattle.base.specs.Sizes.{set_words}
 use Rattle.dataflow_domains.specs.Words.{mask_of, mask_at}
-use Rattle.base.specs.CopyLaws.{Copied, copied_none, copied_more, copied_all}
+use Rattle.base.specs.CopyLaws.{copied_all}
 use Rattle.dataflow_domains.proofs.LiveVarState.load.Goals as goal
 
 pub returns : goal.returns

@@ -1,8 +1,8 @@
-use Rattle.std.proofs.Common.{◌≡◌, ◌∙◌, get_or, ◌+◌, ◌-◌, rules, arith}
+use Rattle.std.proofs.Common.{◌≡◌, ◌∙◌, get_or, ◌+◌, rules, arith}
 use Rattle.dataflow_domains.specs.Sets.{mask}
 use Rattle.dataflow_domains.specs.ByteWords.{word_at, bytes_mask}
 use Rattle.base.specs.Sizes.{set_words}
-use Rattle.base.specs.CopyLaws.{Copied, copied_more}
+use Rattle.base.specs.CopyLaws.{copied_more}
 use Rattle.dataflow_domains.specs.Words.{masks_of}
 use Rattle.dataflow_domains.proofs.LiveVarState.load_bytes.Goals as goal
 

@@ -1,8 +1,6 @@
-use Rattle.std.proofs.Common.{◌≡◌, ◌∙◌, get_or, ◌+◌, ◌-◌}
-use Rattle.dataflow_domains.specs.Sets.{mask}
-use Rattle.dataflow_domains.specs.ByteWords.{word_at, bytes_mask}
+use Rattle.std.proofs.Common.{◌-◌}
 use Rattle.base.specs.Sizes.{set_words}
-use Rattle.base.specs.CopyLaws.{Copied, copied_more}
+use Rattle.base.specs.CopyLaws.{Copied}
 use Rattle.dataflow_domains.specs.Words.{masks_of}
 use Rattle.dataflow_domains.proofs.LiveVarState.load_bytes.Given as goal
 

@@ -1,6 +1,5 @@
-use Rattle.std.proofs.Common.{◌≡◌, refl, sym, ap, ◌∙◌, ℕ, ◌+◌, ◌-◌, ◌*◌, ◌≤◌, get_or, take, take_all, rules, arith}
+use Rattle.std.proofs.Common.{refl, sym, ap, ◌∙◌, ℕ, ◌+◌, get_or, take_all, rules, arith}
 use Rattle.dataflow_domains.specs.Sets.{mask}
-use Rattle.base.specs.Sizes.{set_words}
 use Rattle.dataflow_domains.specs.SetLaws.{Array, array}
 use lib.Count.{ones, ones-le}
 use Rattle.dataflow_domains.specs.Words.{ones_of}

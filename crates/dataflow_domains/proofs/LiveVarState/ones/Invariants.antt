@@ -1,11 +1,6 @@
-use Rattle.std.proofs.Common.{◌≡◌, refl, sym, ap, ◌∙◌, ℕ, ◌+◌, ◌-◌, ◌*◌, ◌≤◌, get_or, take, take_all}
-use Rattle.dataflow_domains.specs.Sets.{mask}
+use Rattle.std.proofs.Common.{◌≡◌, ◌-◌, ◌*◌, ◌≤◌, take}
 use Rattle.base.specs.Sizes.{set_words}
-use Rattle.dataflow_domains.specs.SetLaws.{Array, array}
-use lib.Count.{ones, ones-le}
 use Rattle.dataflow_domains.specs.Words.{ones_of}
-use Rattle.dataflow_domains.specs.WordLaws.{mask_ones}
-use Rattle.dataflow_domains.specs.LoopLaws.{ones_more}
 use Rattle.dataflow_domains.proofs.LiveVarState.ones.Given as goal
 
 abbrev pub invariant-loop-j : goal.invariant-loop-j

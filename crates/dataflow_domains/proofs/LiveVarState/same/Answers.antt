@@ -1,8 +1,7 @@
-use Rattle.std.proofs.Common.{◌-◌, ◌≤◌, rules, arith}
+use Rattle.std.proofs.Common.{rules, arith}
 use Rattle.dataflow_domains.specs.Sets.{mask}
-use Rattle.base.specs.Sizes.{set_words}
 use Rattle.dataflow_domains.specs.SetLaws.{Array, array, same_by}
-use Rattle.dataflow_domains.specs.LoopLaws.{Differ, differ_none, differ_more}
+use Rattle.dataflow_domains.specs.LoopLaws.{differ_more}
 use Rattle.dataflow_domains.proofs.LiveVarState.same.Goals as goal
 
 pub loop-j-preserved : goal.loop-j-preserved

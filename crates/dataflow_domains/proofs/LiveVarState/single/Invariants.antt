@@ -1,8 +1,7 @@
-use Rattle.std.proofs.Common.{◌≡◌, refl, sym, ap, ◌∙◌, subst, ℕ, ◌+◌, ◌-◌, get_or, set, zero-add}
-use Rattle.dataflow_domains.specs.Sets.{mask, lone}
+use Rattle.std.proofs.Common.{◌-◌}
+use Rattle.dataflow_domains.specs.Sets.{lone}
 use Rattle.base.specs.Sizes.{set_words}
-use Rattle.dataflow_domains.specs.SetLaws.{lone_mask}
-use Rattle.base.specs.CopyLaws.{Copied, copied_none, copied_more}
+use Rattle.base.specs.CopyLaws.{Copied}
 use Rattle.dataflow_domains.proofs.LiveVarState.single.Given as goal
 
 abbrev pub invariant-loop-j : goal.invariant-loop-j

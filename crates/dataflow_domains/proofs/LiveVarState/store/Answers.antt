@@ -1,8 +1,8 @@
 use Rattle.dataflow_domains.specs.Sets.{mask, sets_of}
-use Rattle.std.proofs.Common.{◌≡◌, refl, sym, ap, ◌∙◌, ℕ, ◌+◌, ◌-◌, ◌*◌, ◌≤◌, List, length, get_or, set, length-set, add-one, rules, arith}
+use Rattle.std.proofs.Common.{◌≡◌, sym, ap, ◌∙◌, ℕ, ◌+◌, ◌*◌, List, get_or, set, length-set, add-one, rules, arith}
 use Rattle.base.specs.Sizes.{set_words}
 use Rattle.dataflow_domains.specs.SetLaws.{Array, array}
-use Rattle.std.proofs.Math.Seq.{paste, paste-zero, paste-suc}
+use Rattle.std.proofs.Math.Seq.{paste, paste-suc}
 use Rattle.dataflow_domains.specs.SliceLaws.{masks_put}
 use Rattle.dataflow_domains.proofs.LiveVarState.store.Goals as goal
 

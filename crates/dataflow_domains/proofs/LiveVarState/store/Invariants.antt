@@ -1,9 +1,6 @@
-use Rattle.dataflow_domains.specs.Sets.{mask, sets_of}
-use Rattle.std.proofs.Common.{◌≡◌, refl, sym, ap, ◌∙◌, ℕ, ◌+◌, ◌-◌, ◌*◌, ◌≤◌, List, length, get_or, set, length-set, add-one}
+use Rattle.std.proofs.Common.{◌≡◌, ◌-◌, ◌*◌, ◌≤◌, length}
 use Rattle.base.specs.Sizes.{set_words}
-use Rattle.dataflow_domains.specs.SetLaws.{Array, array}
-use Rattle.std.proofs.Math.Seq.{paste, paste-zero, paste-suc}
-use Rattle.dataflow_domains.specs.SliceLaws.{masks_put}
+use Rattle.std.proofs.Math.Seq.{paste}
 use Rattle.dataflow_domains.proofs.LiveVarState.store.Given as goal
 
 abbrev pub invariant-loop-j : goal.invariant-loop-j

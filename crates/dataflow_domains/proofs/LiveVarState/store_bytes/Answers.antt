@@ -1,4 +1,4 @@
-use Rattle.std.proofs.Common.{◌≡◌, refl, ap, ◌∙◌, ◌++◌, length-take-le, ℕ, ◌+◌, ◌-◌, ◌*◌, ◌≤◌, length, get_or, take, drop, rules, arith}
+use Rattle.std.proofs.Common.{◌≡◌, refl, ap, ◌∙◌, length-take-le, ℕ, ◌+◌, ◌*◌, length, get_or, take, rules, arith}
 use Rattle.base.specs.Bytes.{bytes_of}
 use Rattle.base.specs.WriteLaws.{part_back}
 use Rattle.dataflow_domains.specs.Sets.{mask}

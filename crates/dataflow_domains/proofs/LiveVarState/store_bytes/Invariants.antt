@@ -1,11 +1,6 @@
-use Rattle.std.proofs.Common.{◌≡◌, refl, ap, ◌∙◌, ◌++◌, length-take-le, ℕ, ◌+◌, ◌-◌, ◌*◌, ◌≤◌, length, get_or, take, drop}
-use Rattle.base.specs.Bytes.{bytes_of}
-use Rattle.base.specs.WriteLaws.{part_back}
-use Rattle.dataflow_domains.specs.Sets.{mask}
-use Rattle.dataflow_domains.specs.ByteWords.{each_more, each_length, all_bytes}
+use Rattle.std.proofs.Common.{◌≡◌, ◌++◌, ◌-◌, ◌*◌, ◌≤◌, length, take, drop}
 use Rattle.base.specs.Sizes.{set_words}
 use Rattle.dataflow_domains.specs.Words.{bytes_each}
-use Rattle.dataflow_domains.specs.SetLaws.{Array, array}
 use Rattle.dataflow_domains.proofs.LiveVarState.store_bytes.Given as goal
 
 abbrev pub invariant-loop-j : goal.invariant-loop-j

@@ -1,11 +1,10 @@
-use Rattle.std.proofs.Common.{◌≡◌, refl, sym, ap, ◌∙◌, subst, ℕ, ◌-◌, ◌<◌, ◌^◌, List, set, rules, arith}
+use Rattle.std.proofs.Common.{◌≡◌, sym, ap, ◌∙◌, subst, ℕ, ◌<◌, ◌^◌, List, set, rules, arith}
 use Rattle.dataflow_domains.specs.Sets.{mask}
-use Rattle.base.specs.Sizes.{set_words, max_locals}
-use Rattle.dataflow_domains.specs.SetLaws.{Array, array, array_as, Zeros, zeros_more, last_word, taken_at}
+use Rattle.base.specs.Sizes.{max_locals}
+use Rattle.dataflow_domains.specs.SetLaws.{Array, array, array_as, last_word, taken_at}
 use Rattle.dataflow_domains.specs.Mask.{minus}
 use Rattle.dataflow_domains.specs.Words.{mask_of}
 use Rattle.dataflow_domains.specs.Members.{Lowest}
-use Rattle.dataflow_domains.specs.LoopLaws.{alike_none}
 use Rattle.dataflow_domains.proofs.LiveVarState.take_lowest.Goals as goal
 
 pub lowest_in-local-requires-2 : goal.lowest_in-local-requires-2

@@ -1,9 +1,8 @@
-use Rattle.std.proofs.Common.{◌-◌, ◌≤◌, rules, arith}
+use Rattle.std.proofs.Common.{rules, arith}
 use Rattle.dataflow_domains.specs.Mask.{union}
 use Rattle.dataflow_domains.specs.Sets.{mask}
-use Rattle.base.specs.Sizes.{set_words}
 use Rattle.dataflow_domains.specs.SetLaws.{Array, array}
-use Rattle.dataflow_domains.specs.LoopLaws.{Each, each_none, each_more, union_all}
+use Rattle.dataflow_domains.specs.LoopLaws.{each_more, union_all}
 use Rattle.dataflow_domains.proofs.LiveVarState.union.Goals as goal
 
 pub loop-j-preserved : goal.loop-j-preserved

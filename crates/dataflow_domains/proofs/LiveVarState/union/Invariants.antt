@@ -1,9 +1,7 @@
 use Rattle.std.proofs.Common.{◌-◌, ◌≤◌}
 use Rattle.dataflow_domains.specs.Mask.{union}
-use Rattle.dataflow_domains.specs.Sets.{mask}
 use Rattle.base.specs.Sizes.{set_words}
-use Rattle.dataflow_domains.specs.SetLaws.{Array, array}
-use Rattle.dataflow_domains.specs.LoopLaws.{Each, each_none, each_more, union_all}
+use Rattle.dataflow_domains.specs.LoopLaws.{Each}
 use Rattle.dataflow_domains.proofs.LiveVarState.union.Given as goal
 
 abbrev pub invariant-loop-j : goal.invariant-loop-j

@@ -1,5 +1,5 @@
-use Rattle.std.proofs.Common.{sym, ◌∙◌, rules, arith}
-use Rattle.eliminate_unused_vars.specs.NamesLaws.{gives_plain, gives_flagged}
+use Rattle.std.proofs.Common.{sym, ◌∙◌}
+use Rattle.eliminate_unused_vars.specs.NamesLaws.{gives_plain}
 use Rattle.eliminate_unused_vars.proofs.names.name_abort.Goals as goal
 
 pub returns : goal.returns

@@ -1,14 +1,9 @@
-use Rattle.std.proofs.Common.{◌≡◌, refl, sym, ◌∙◌, subst, ◌≤◌, ◌-◌, length, take, take_all}
+use Rattle.std.proofs.Common.{◌≡◌, ◌≤◌, ◌-◌, length, take}
 use Rattle.base.specs.Lists.{gather}
 use Rattle.base.specs.Numbering.{Gives}
-use Rattle.base.specs.NumberingLaws.{give_nothing}
 use Rattle.sheet.specs.Layout.{code_of}
-use Rattle.sheet.specs.CheckLaws.{code_length}
-use Rattle.livevar_analysis.specs.Rules.{InRange}
-use Rattle.livevar_analysis.specs.InputLaws.{code_at, in_range, record_inside}
 use Rattle.eliminate_unused_vars.specs.Remap.{mentions}
 use Rattle.eliminate_unused_vars.specs.Names.{first_name}
-use Rattle.eliminate_unused_vars.specs.NamesLaws.{same_room, code_next}
 use Rattle.eliminate_unused_vars.proofs.names.name_code.Given as goal
 
 abbrev pub invariant-loop-k : goal.invariant-loop-k

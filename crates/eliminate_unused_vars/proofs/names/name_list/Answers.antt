@@ -1,7 +1,5 @@
-use Rattle.std.proofs.Common.{◌≡◌, refl, ◌∙◌, ◌≤◌, ◌-◌, length, take, rules, arith}
-use Rattle.base.specs.Numbering.{Gives}
+use Rattle.std.proofs.Common.{refl, ◌∙◌, rules, arith}
 use Rattle.base.specs.NumberingLaws.{give_nothing}
-use Rattle.eliminate_unused_vars.specs.Names.{first_name}
 use Rattle.eliminate_unused_vars.specs.NamesLaws.{place_next}
 use Rattle.eliminate_unused_vars.proofs.names.name_list.Goals as goal
 

@@ -1,8 +1,6 @@
-use Rattle.std.proofs.Common.{◌≡◌, refl, ◌∙◌, ◌≤◌, ◌-◌, length, take}
+use Rattle.std.proofs.Common.{◌≡◌, ◌≤◌, ◌-◌, length, take}
 use Rattle.base.specs.Numbering.{Gives}
-use Rattle.base.specs.NumberingLaws.{give_nothing}
 use Rattle.eliminate_unused_vars.specs.Names.{first_name}
-use Rattle.eliminate_unused_vars.specs.NamesLaws.{place_next}
 use Rattle.eliminate_unused_vars.proofs.names.name_list.Given as goal
 
 abbrev pub invariant-loop-i : goal.invariant-loop-i

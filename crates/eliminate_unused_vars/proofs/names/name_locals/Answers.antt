@@ -1,4 +1,4 @@
-use Rattle.std.proofs.Common.{◌∙◌, rules, arith}
+use Rattle.std.proofs.Common.{◌∙◌, arith}
 use Rattle.sheet.specs.ValidLaws.{accepted_valid}
 use Rattle.eliminate_unused_vars.specs.NamesLaws.{same_room, locals_named}
 use Rattle.eliminate_unused_vars.proofs.names.name_locals.Goals as goal

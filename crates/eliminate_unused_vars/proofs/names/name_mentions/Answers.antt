@@ -1,6 +1,5 @@
-use Rattle.std.proofs.Common.{◌∙◌, rules}
 use Rattle.stackless_bytecode.specs.Kinds.{dsts_of, srcs_of}
-use Rattle.eliminate_unused_vars.specs.NamesLaws.{same_room, gives_mentions}
+use Rattle.eliminate_unused_vars.specs.NamesLaws.{gives_mentions}
 use Rattle.eliminate_unused_vars.proofs.names.name_mentions.Goals as goal
 
 pub returns : goal.returns

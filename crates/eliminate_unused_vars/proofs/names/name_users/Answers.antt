@@ -1,9 +1,7 @@
-use Rattle.std.proofs.Common.{◌≡◌, refl, ◌∙◌, ◌≤◌, ◌-◌, length, rules, arith}
+use Rattle.std.proofs.Common.{refl, ◌∙◌, arith}
 use Rattle.base.specs.Lists.{tab}
-use Rattle.base.specs.Numbering.{Gives}
 use Rattle.base.specs.NumberingLaws.{give_start, give_then}
 use Rattle.base.specs.TabLaws.{tab_last}
-use Rattle.eliminate_unused_vars.specs.Names.{first_name}
 use Rattle.eliminate_unused_vars.proofs.names.name_users.Goals as goal
 
 pub loop-i-init : goal.loop-i-init

@@ -1,8 +1,6 @@
-use Rattle.std.proofs.Common.{◌≡◌, refl, ◌∙◌, ◌≤◌, ◌-◌, length}
+use Rattle.std.proofs.Common.{◌≡◌, ◌≤◌, ◌-◌, length}
 use Rattle.base.specs.Lists.{tab}
 use Rattle.base.specs.Numbering.{Gives}
-use Rattle.base.specs.NumberingLaws.{give_start, give_then}
-use Rattle.base.specs.TabLaws.{tab_last}
 use Rattle.eliminate_unused_vars.specs.Names.{first_name}
 use Rattle.eliminate_unused_vars.proofs.names.name_users.Given as goal
 

@@ -1,4 +1,4 @@
-use Rattle.std.proofs.Common.{ap, ℕ, get_or, arith, rules}
+use Rattle.std.proofs.Common.{ap, ℕ, get_or, arith}
 use Rattle.eliminate_unused_vars.specs.Names.{name_in}
 use Rattle.eliminate_unused_vars.proofs.remap.new_number.Goals as goal
 

@@ -1,4 +1,4 @@
-use Rattle.std.proofs.Common.{sym, ◌∙◌, rules}
+use Rattle.std.proofs.Common.{sym, ◌∙◌}
 use Rattle.eliminate_unused_vars.specs.RemapCodeLaws.{remapped_flagged, remapped_plain}
 use Rattle.eliminate_unused_vars.proofs.remap.remap_all_vars.Goals as goal
 

@@ -1,12 +1,6 @@
-use Rattle.std.proofs.Common.{◌≡◌, refl, ◌+◌, ◌*◌, ◌-◌, ◌≤◌, ◌<◌, length, take}
-use Rattle.base.specs.Sizes.{record_bytes, max_instructions}
-use Rattle.sheet.specs.Layout.{count_of}
-use Rattle.sheet.specs.ValidLaws.{accepted_valid}
+use Rattle.std.proofs.Common.{◌≡◌, ◌-◌, ◌≤◌, length, take}
 use Rattle.sheet_writer.specs.Written.{placed}
-use Rattle.sheet_writer.specs.RecordsLaws.{placed_none}
-use Rattle.livevar_analysis.specs.InputLaws.{record_inside}
 use Rattle.eliminate_unused_vars.specs.Renumber.{renumbered_code}
-use Rattle.eliminate_unused_vars.specs.RemapCodeLaws.{at_named, renumbered_next, renumbered_all}
 use Rattle.eliminate_unused_vars.proofs.remap.remap_code.Given as goal
 
 abbrev pub invariant-loop-k : goal.invariant-loop-k

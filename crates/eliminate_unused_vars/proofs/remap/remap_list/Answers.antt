@@ -1,5 +1,5 @@
-use Rattle.std.proofs.Common.{◌≡◌, refl, ◌-◌, ◌≤◌, rules, arith}
-use Rattle.eliminate_unused_vars.specs.RemapCodeLaws.{renamed, renamed_more, renamed_all}
+use Rattle.std.proofs.Common.{rules, arith}
+use Rattle.eliminate_unused_vars.specs.RemapCodeLaws.{renamed_all}
 use Rattle.eliminate_unused_vars.proofs.remap.remap_list.Goals as goal
 
 pub returns : goal.returns

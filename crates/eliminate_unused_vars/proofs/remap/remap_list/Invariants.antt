@@ -1,5 +1,5 @@
-use Rattle.std.proofs.Common.{◌≡◌, refl, ◌-◌, ◌≤◌}
-use Rattle.eliminate_unused_vars.specs.RemapCodeLaws.{renamed, renamed_more, renamed_all}
+use Rattle.std.proofs.Common.{◌≡◌, ◌-◌, ◌≤◌}
+use Rattle.eliminate_unused_vars.specs.RemapCodeLaws.{renamed}
 use Rattle.eliminate_unused_vars.proofs.remap.remap_list.Given as goal
 
 abbrev pub invariant-loop-i : goal.invariant-loop-i

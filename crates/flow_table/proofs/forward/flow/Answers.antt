@@ -5,7 +5,7 @@ use Rattle.base.specs.Sizes.{row_numbers}
 use Rattle.sheet.specs.ValidLaws.{accepted_valid}
 use Rattle.stackless_control_flow_graph.specs.CallLaws.{flow_refused, flow_short, flow_done, into_checked}
 use Rattle.stackless_control_flow_graph.specs.FlowMeaningLaws.{flow_means}
-use Rattle.std.proofs.Common.{rules, ltb-false, ltb-true, length, ◌*◌, sym, ap, ◌∙◌, arith}
+use Rattle.std.proofs.Common.{ltb-false, ltb-true, length, ◌*◌, sym, ap, ◌∙◌, arith}
 use Rattle.flow_table.proofs.forward.flow.Goals as goal
 
 pub u16_at-n-requires : goal.u16_at-n-requires

@@ -1,4 +1,4 @@
-use Rattle.std.proofs.Common.{sym, ◌∙◌, rules}
+use Rattle.std.proofs.Common.{sym, ◌∙◌}
 use Rattle.stackless_control_flow_graph.specs.RowLaws.{next_exit, next_other}
 use Rattle.flow_table.proofs.rows.next_keys.Goals as goal
 

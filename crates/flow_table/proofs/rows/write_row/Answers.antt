@@ -1,4 +1,3 @@
-use Rattle.std.proofs.Common.{length-set, arith, rules}
 use Rattle.stackless_control_flow_graph.specs.RowLaws.{row_put}
 use Rattle.flow_table.proofs.rows.write_row.Goals as goal
 

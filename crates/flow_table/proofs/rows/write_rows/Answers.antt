@@ -1,9 +1,7 @@
-use Rattle.std.proofs.Common.{length-take-le, ◌+◌, ◌-◌, ◌*◌, ◌≤◌, ◌++◌, ◌≡◌, refl, ap, ◌∙◌, length, take, drop, length-drop, rules, arith}
+use Rattle.std.proofs.Common.{◌+◌, ◌-◌, ◌*◌, ◌≡◌, refl, rules, arith}
 use Rattle.base.specs.Lists.{gather}
 use Rattle.base.specs.Sizes.{row_numbers}
-use Rattle.stackless_control_flow_graph.specs.Arrays.{row_in}
-use Rattle.stackless_control_flow_graph.specs.KeyLaws.{block_lower, block_near}
-use Rattle.stackless_control_flow_graph.specs.RowLaws.{rows_kept, rows_more}
+use Rattle.stackless_control_flow_graph.specs.RowLaws.{rows_more}
 use Rattle.flow_table.proofs.rows.write_rows.Goals as goal
 
 pub loop-b-init : goal.loop-b-init

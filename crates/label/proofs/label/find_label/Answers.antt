@@ -1,10 +1,9 @@
-use Rattle.std.proofs.Common.{◌≡◌, sym, ap, ◌∙◌, not, ◌-◌, rules}
-use Rattle.base.specs.Lists.{has, first_bad}
-use Rattle.base.specs.SearchLaws.{bad_start, bad_more, bad_stop, bad_end}
+use Rattle.std.proofs.Common.{sym, ap, ◌∙◌, not, rules}
+use Rattle.base.specs.Lists.{has}
+use Rattle.base.specs.SearchLaws.{bad_more, bad_stop, bad_end}
 use Rattle.base.specs.Refusals.{found_of}
 use Rattle.stackless_bytecode.specs.declared.Bytecode.{Bytecode}
-use Rattle.stackless_bytecode.specs.Kinds.{at, label_of}
-use Rattle.sheet.specs.Layout.{code_of}
+use Rattle.stackless_bytecode.specs.Kinds.{label_of}
 use Rattle.sheet.specs.Shaped.{record_inside, code_at}
 use Rattle.label.proofs.label.find_label.Goals as goal
 

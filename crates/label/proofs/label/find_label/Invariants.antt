@@ -1,11 +1,7 @@
-use Rattle.std.proofs.Common.{◌≡◌, sym, ap, ◌∙◌, not, ◌-◌}
+use Rattle.std.proofs.Common.{◌≡◌, not, ◌-◌}
 use Rattle.base.specs.Lists.{has, first_bad}
-use Rattle.base.specs.SearchLaws.{bad_start, bad_more, bad_stop, bad_end}
-use Rattle.base.specs.Refusals.{found_of}
-use Rattle.stackless_bytecode.specs.declared.Bytecode.{Bytecode}
 use Rattle.stackless_bytecode.specs.Kinds.{at, label_of}
 use Rattle.sheet.specs.Layout.{code_of}
-use Rattle.sheet.specs.Shaped.{record_inside, code_at}
 use Rattle.label.proofs.label.find_label.Given as goal
 
 abbrev pub invariant-loop-k : goal.invariant-loop-k

@@ -1,4 +1,4 @@
-use Rattle.std.proofs.Common.{sym, ap, ◌∙◌, eqb, rules}
+use Rattle.std.proofs.Common.{sym, ap, ◌∙◌, eqb}
 use Rattle.label.specs.LabelLaws.{label_has, other_has}
 use Rattle.label.proofs.label.is_label.Goals as goal
 

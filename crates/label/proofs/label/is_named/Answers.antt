@@ -1,5 +1,5 @@
-use Rattle.std.proofs.Common.{◌≡◌, sym, ap, ◌∙◌, ◌-◌, drop, rules, arith}
-use Rattle.base.specs.Lists.{gather, has}
+use Rattle.std.proofs.Common.{sym, ap, ◌∙◌, rules, arith}
+use Rattle.base.specs.Lists.{has}
 use Rattle.stackless_bytecode.specs.declared.Bytecode.{Bytecode}
 use Rattle.stackless_bytecode.specs.Kinds.{branch_dests}
 use Rattle.sheet.specs.Layout.{code_of}

@@ -1,10 +1,7 @@
-use Rattle.std.proofs.Common.{◌≡◌, sym, ap, ◌∙◌, ◌-◌, drop}
+use Rattle.std.proofs.Common.{◌≡◌, ◌-◌, drop}
 use Rattle.base.specs.Lists.{gather, has}
-use Rattle.stackless_bytecode.specs.declared.Bytecode.{Bytecode}
 use Rattle.stackless_bytecode.specs.Kinds.{branch_dests}
 use Rattle.sheet.specs.Layout.{code_of}
-use Rattle.sheet.specs.Shaped.{record_inside, code_at, code_size}
-use Rattle.label.specs.LabelLaws.{names_here, names_on, names_end}
 use Rattle.label.proofs.label.is_named.Given as goal
 
 abbrev pub invariant-loop-k : goal.invariant-loop-k

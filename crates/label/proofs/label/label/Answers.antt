@@ -1,4 +1,4 @@
-use Rattle.std.proofs.Common.{sym, ap, ◌∙◌, subst, ℕ, arith, rules}
+use Rattle.std.proofs.Common.{sym, ap, ◌∙◌, subst, ℕ, arith}
 use Rattle.base.specs.Refusals.{verdict_of}
 use Rattle.base.specs.RefusalLaws.{accepted_by}
 use Rattle.base.specs.ReplyLaws.{refused_number}

@@ -1,4 +1,4 @@
-use Rattle.std.proofs.Common.{sym, ◌∙◌, true, false, arith, rules}
+use Rattle.std.proofs.Common.{sym, ◌∙◌, true, false, arith}
 use Rattle.label.specs.LabelLaws.{look_missing, look_low, look_found}
 use Rattle.label.proofs.label.look_up.Goals as goal
 

@@ -1,4 +1,4 @@
-use Rattle.std.proofs.Common.{ap₂, ◌∙◌, ◌||◌, ℕ, eqb, rules}
+use Rattle.std.proofs.Common.{ap₂, ◌∙◌, ◌||◌, ℕ, eqb}
 use Rattle.label.specs.LabelLaws.{names_has}
 use Rattle.label.proofs.label.names_label.Goals as goal
 

@@ -1,5 +1,4 @@
-use Rattle.std.proofs.Common.{sym, ap, arith, rules}
-use Rattle.stackless_bytecode.specs.Labels.{offset_of}
+use Rattle.std.proofs.Common.{sym, ap}
 use Rattle.label.specs.LabelCall.{label_value}
 use Rattle.label.proofs.label.value_of.Goals as goal
 

@@ -1,5 +1,4 @@
-use Rattle.std.proofs.Common.{◌≡◌, ap, ◌+◌, ◌≤◌, length, rules, arith}
-use Rattle.listing.specs.Words.{decimal}
+use Rattle.std.proofs.Common.{ap, length, arith}
 use Rattle.listing.specs.NumberLaws.{decimal_small, decimal_short, digit_less}
 use Rattle.listing.proofs.numbers.digits.Goals as goal
 

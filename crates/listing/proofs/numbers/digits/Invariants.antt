@@ -1,6 +1,5 @@
-use Rattle.std.proofs.Common.{◌≡◌, ap, ◌+◌, ◌≤◌, length}
+use Rattle.std.proofs.Common.{◌≡◌, ◌+◌, ◌≤◌, length}
 use Rattle.listing.specs.Words.{decimal}
-use Rattle.listing.specs.NumberLaws.{decimal_small, decimal_short, digit_less}
 use Rattle.listing.proofs.numbers.digits.Given as goal
 
 abbrev pub invariant-loop-y : goal.invariant-loop-y

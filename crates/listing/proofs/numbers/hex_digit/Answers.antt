@@ -1,4 +1,4 @@
-use Rattle.std.proofs.Common.{lt-ltb, le-ltb, rules}
+use Rattle.std.proofs.Common.{lt-ltb, le-ltb}
 use Rattle.listing.specs.Words.{hex_digit}
 use Rattle.listing.proofs.numbers.hex_digit.Goals as goal
 

@@ -1,7 +1,7 @@
-use Rattle.std.proofs.Common.{sym, ap, subst, ℕ, ◌+◌, length, set, length-append, length-set, rules, arith}
+use Rattle.std.proofs.Common.{sym, ap, subst, ℕ, ◌+◌, length, set, length-append, arith}
 use Rattle.listing.specs.Words.{decimal}
 use Rattle.base.specs.Put.{Put}
-use Rattle.listing.specs.NumberLaws.{digit_less, decimal_small, Ending, ending_none, ending_more, ending_all}
+use Rattle.listing.specs.NumberLaws.{digit_less, decimal_small, ending_more, ending_all}
 use Rattle.listing.proofs.numbers.put_decimal.Goals as goal
 
 pub overflow_sub-i : goal.overflow_sub-i

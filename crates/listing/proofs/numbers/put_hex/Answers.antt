@@ -1,5 +1,5 @@
-use Rattle.std.proofs.Common.{◌≡◌, refl, sym, ap, ◌∙◌, ◌+◌, ◌-◌, ◌*◌, ◌≤◌, length, length-set, rules, arith}
-use Rattle.std.proofs.Math.Seq.{paste, paste-zero}
+use Rattle.std.proofs.Common.{◌≡◌, sym, ap, ◌∙◌, ◌+◌, ◌*◌, length-set, rules, arith}
+use Rattle.std.proofs.Math.Seq.{paste}
 use Rattle.base.specs.Bytes.{number, Bytes}
 use Rattle.base.specs.Sizes.{set_bytes}
 use Rattle.listing.specs.Words.{hex}

@@ -1,10 +1,8 @@
-use Rattle.std.proofs.Common.{◌≡◌, refl, sym, ap, ◌∙◌, ◌+◌, ◌-◌, ◌*◌, ◌≤◌, length, length-set}
-use Rattle.std.proofs.Math.Seq.{paste, paste-zero}
-use Rattle.base.specs.Bytes.{number, Bytes}
+use Rattle.std.proofs.Common.{◌≡◌, ◌-◌, ◌*◌, ◌≤◌, length}
+use Rattle.std.proofs.Math.Seq.{paste}
+use Rattle.base.specs.Bytes.{number}
 use Rattle.base.specs.Sizes.{set_bytes}
 use Rattle.listing.specs.Words.{hex}
-use Rattle.base.specs.PutLaws.{put_paste, paste_two}
-use Rattle.listing.specs.NumberLaws.{hex_length, hex_high, hex_low}
 use Rattle.listing.proofs.numbers.put_hex.Given as goal
 
 abbrev pub invariant-loop-i : goal.invariant-loop-i

@@ -1,4 +1,4 @@
-use Rattle.std.proofs.Common.{rules, arith}
+use Rattle.std.proofs.Common.{arith}
 use Rattle.listing.specs.OutputLaws.{wrote_one, wrote_full}
 use Rattle.listing.proofs.output.put_byte.Goals as goal
 

@@ -1,5 +1,5 @@
-use Rattle.std.proofs.Common.{rules, arith, ◌-◌, ◌≤◌, length, drop}
-use Rattle.listing.specs.OutputLaws.{Goes, goes_start, goes_as, goes_on, goes_end, goes_length, drop_one, drop_past}
+use Rattle.std.proofs.Common.{arith}
+use Rattle.listing.specs.OutputLaws.{goes_as, goes_on, goes_end, drop_one, drop_past}
 use Rattle.listing.proofs.output.put_bytes.Goals as goal
 
 pub loop-i-preserved : goal.loop-i-preserved

@@ -1,5 +1,5 @@
 use Rattle.std.proofs.Common.{◌-◌, ◌≤◌, length, drop}
-use Rattle.listing.specs.OutputLaws.{Goes, goes_start, goes_as, goes_on, goes_end, goes_length, drop_one, drop_past}
+use Rattle.listing.specs.OutputLaws.{Goes}
 use Rattle.listing.proofs.output.put_bytes.Given as goal
 
 abbrev pub invariant-loop-i : goal.invariant-loop-i

@@ -1,6 +1,5 @@
-use Rattle.std.proofs.Common.{rules, arith}
+use Rattle.std.proofs.Common.{arith}
 use Rattle.listing.specs.NumberLaws.{decimal_short}
-use Rattle.listing.specs.OutputLaws.{wrote_as, put_digits, digits_long}
 use Rattle.listing.proofs.output.put_decimal.Goals as goal
 
 pub put_decimal-n-requires : goal.put_decimal-n-requires

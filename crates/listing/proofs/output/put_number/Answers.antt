@@ -1,4 +1,3 @@
-use Rattle.std.proofs.Common.{rules}
 use Rattle.listing.specs.OutputLaws.{wrote_then}
 use Rattle.listing.proofs.output.put_number.Goals as goal
 

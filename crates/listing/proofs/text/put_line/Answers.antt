@@ -1,4 +1,4 @@
-use Rattle.std.proofs.Common.{arith, rules}
+use Rattle.std.proofs.Common.{arith}
 use Rattle.listing.specs.OutputLaws.{wrote_as, wrote_then}
 use Rattle.listing.specs.TextLaws.{line_is}
 use Rattle.listing.proofs.text.put_line.Goals as goal

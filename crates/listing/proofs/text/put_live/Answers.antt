@@ -1,8 +1,5 @@
-use Rattle.std.proofs.Common.{rules, arith, ◌-◌, ◌≤◌, sym}
-use Rattle.livevar_analysis.specs.Analysis.{infos_of}
-use Rattle.listing.specs.Lines.{lines}
-use Rattle.listing.specs.Output.{Wrote}
-use Rattle.listing.specs.OutputLaws.{wrote_as, wrote_none, wrote_then, wrote_length}
+use Rattle.std.proofs.Common.{arith, sym}
+use Rattle.listing.specs.OutputLaws.{wrote_as, wrote_none, wrote_then}
 use Rattle.listing.specs.TextLaws.{lines_none, lines_next, text_is}
 use Rattle.listing.proofs.text.put_live.Goals as goal
 

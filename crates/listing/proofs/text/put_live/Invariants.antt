@@ -1,9 +1,7 @@
-use Rattle.std.proofs.Common.{◌-◌, ◌≤◌, sym}
+use Rattle.std.proofs.Common.{◌-◌, ◌≤◌}
 use Rattle.livevar_analysis.specs.Analysis.{infos_of}
 use Rattle.listing.specs.Lines.{lines}
 use Rattle.listing.specs.Output.{Wrote}
-use Rattle.listing.specs.OutputLaws.{wrote_as, wrote_none, wrote_then, wrote_length}
-use Rattle.listing.specs.TextLaws.{lines_none, lines_next, text_is}
 use Rattle.listing.proofs.text.put_live.Given as goal
 
 abbrev pub invariant-loop-k : goal.invariant-loop-k

@@ -1,4 +1,4 @@
-use Rattle.std.proofs.Common.{◌∙◌, rules}
+use Rattle.std.proofs.Common.{◌∙◌}
 use Rattle.base.specs.ListLaws.{copies_at}
 use Rattle.stackless_control_flow_graph.specs.CheckedSheetLaws.{checked_shaped}
 use Rattle.livevar_analysis.specs.PreparedLaws.{rule_words, node_words, zeros_long, rule_room, blank_graph, solve_input, can_solve, can_write, live_written}

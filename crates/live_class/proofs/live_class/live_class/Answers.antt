@@ -1,4 +1,4 @@
-use Rattle.std.proofs.Common.{sym, ap, ◌∙◌, arith, rules, length}
+use Rattle.std.proofs.Common.{sym, ap, ◌∙◌, arith, length}
 use Rattle.base.specs.Refusals.{verdict_of}
 use Rattle.base.specs.RefusalLaws.{accepted_by}
 use Rattle.base.specs.ReplyLaws.{refuses, refused_number}

@@ -1,4 +1,4 @@
-use Rattle.std.proofs.Common.{sym, ap, ap₂, ◌∙◌, [], ◌∷◌, ℕ, rules}
+use Rattle.std.proofs.Common.{sym, ap, ap₂, ◌∙◌, [], ◌∷◌, ℕ}
 use Rattle.base.specs.Refusals.{answer_of}
 use Rattle.base.specs.ReplyLaws.{refused_number}
 use Rattle.class_set.specs.ClassLaws.{numbers_accepted, numbers_refused}

@@ -1,8 +1,7 @@
-use Rattle.std.proofs.Common.{◌≡◌, subst, ◌-◌, ◌≤◌, ◌<◌, arith, length, rules}
-use Rattle.base.specs.Sizes.{answer_numbers}
-use Rattle.class_set.specs.ClassSet.{blocks_in, sheets_in}
+use Rattle.std.proofs.Common.{◌<◌, arith, rules}
+use Rattle.class_set.specs.ClassSet.{sheets_in}
 use Rattle.class_set.specs.CutLaws.{start_inside}
-use Rattle.class_set.specs.ClassLaws.{Answered, answered_none, next_is, lent_long, answered_more}
+use Rattle.class_set.specs.ClassLaws.{answered_none, next_is, answered_more}
 use Rattle.live_class.proofs.live_class.live_sheets.Goals as goal
 
 pub loop-k-init : goal.loop-k-init

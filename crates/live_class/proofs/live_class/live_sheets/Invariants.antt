@@ -1,8 +1,6 @@
-use Rattle.std.proofs.Common.{◌≡◌, subst, ◌-◌, ◌≤◌, ◌<◌, length}
-use Rattle.base.specs.Sizes.{answer_numbers}
-use Rattle.class_set.specs.ClassSet.{blocks_in, sheets_in}
-use Rattle.class_set.specs.CutLaws.{start_inside}
-use Rattle.class_set.specs.ClassLaws.{Answered, answered_none, next_is, lent_long, answered_more}
+use Rattle.std.proofs.Common.{◌≡◌, ◌-◌, ◌≤◌, length}
+use Rattle.class_set.specs.ClassSet.{blocks_in}
+use Rattle.class_set.specs.ClassLaws.{Answered}
 use Rattle.live_class.proofs.live_class.live_sheets.Given as goal
 
 abbrev pub invariant-loop-k : goal.invariant-loop-k

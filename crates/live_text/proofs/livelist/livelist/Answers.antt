@@ -1,4 +1,4 @@
-use Rattle.std.proofs.Common.{arith, rules, sym, length}
+use Rattle.std.proofs.Common.{arith, sym, length}
 use Rattle.base.specs.ReplyLaws.{refuses, done_result, done_output}
 use Rattle.listing.specs.OutputLaws.{wrote_whole}
 use Rattle.listing.specs.TextLaws.{livelist_short, livelist_refuses, livelist_done}

@@ -1,4 +1,4 @@
-use Rattle.std.proofs.Common.{arith, rules, sym, ap, ap₂, ◌∙◌, ℕ, ◌*◌}
+use Rattle.std.proofs.Common.{arith, sym, ap, ap₂, ◌∙◌, ℕ, ◌*◌}
 use Rattle.std.proofs.lemmas.List.{length-replicate}
 use Rattle.base.specs.Sizes.{pair_bytes, max_instructions}
 use Rattle.base.specs.Refusals.{verdict_of}

@@ -1,4 +1,4 @@
-use Rattle.std.proofs.Common.{sym, ap, ◌∙◌, not, inl, inr, ⊎_elim, rules}
+use Rattle.std.proofs.Common.{sym, ap, ◌∙◌, not, inl, inr}
 use Rattle.livevar_analysis.specs.EngineLaws.{rule_kept, rule_done}
 use Rattle.livevar_analysis.proofs.execute.apply.Goals as goal
 use Rattle.livevar_analysis.proofs.execute.apply.Goals.{else-not-is_empty, then-not-is_empty+else-same}

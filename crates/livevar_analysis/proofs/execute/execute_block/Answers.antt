@@ -1,11 +1,7 @@
-use Rattle.std.proofs.Common.{◌≡◌, sym, ap, ◌∙◌, List, ℕ, suc, ◌+◌, ◌-◌, ◌≤◌, ◌<◌, add-one, length, take, drop, rules, arith}
-use Rattle.dataflow_domains.specs.Sets.{mask}
-use Rattle.stackless_bytecode.specs.declared.Bytecode.{Bytecode}
+use Rattle.std.proofs.Common.{sym, ap, ◌∙◌, ◌-◌, take, drop, rules, arith}
 use Rattle.livevar_analysis.specs.Analysis.{execute_all}
-use Rattle.livevar_analysis.specs.Rules.{Ruled}
 use Rattle.livevar_analysis.specs.EngineLaws.{execute_more, execute_none}
 use Rattle.livevar_analysis.proofs.execute.execute_block.Goals as goal
-use Rattle.livevar_analysis.proofs.execute.execute_block.Invariants.{BlockLeft}
 
 pub loop-k-preserved : goal.loop-k-preserved
 loop-k-preserved c =

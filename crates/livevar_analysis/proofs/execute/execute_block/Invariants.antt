@@ -1,9 +1,8 @@
-use Rattle.std.proofs.Common.{◌≡◌, sym, ap, ◌∙◌, List, ℕ, suc, ◌+◌, ◌-◌, ◌≤◌, ◌<◌, add-one, length, take, drop}
+use Rattle.std.proofs.Common.{◌≡◌, List, ℕ, suc, ◌+◌, ◌-◌, ◌≤◌, ◌<◌, length, take, drop}
 use Rattle.dataflow_domains.specs.Sets.{mask}
 use Rattle.stackless_bytecode.specs.declared.Bytecode.{Bytecode}
 use Rattle.livevar_analysis.specs.Analysis.{execute_all}
 use Rattle.livevar_analysis.specs.Rules.{Ruled}
-use Rattle.livevar_analysis.specs.EngineLaws.{execute_more, execute_none}
 use Rattle.livevar_analysis.proofs.execute.execute_block.Given as goal
 
 pub record BlockLeft (rules : List ℕ) (lower upper m k set : ℕ) : Type 0 where

@@ -1,5 +1,4 @@
 use Rattle.livevar_analysis.specs.DecodeLaws.{flag_asked, decoded_call}
-use Rattle.std.proofs.Common.{rules}
 use Rattle.livevar_analysis.proofs.rules.call_rule.Goals as goal
 
 pub gone-last-requires : goal.gone-last-requires

@@ -1,14 +1,13 @@
-use Rattle.std.proofs.Common.{◌≡◌, refl, sym, ap, ◌∙◌, subst, List, ℕ, ◌+◌, ◌-◌, ◌≤◌, ◌<◌, length, rules, arith}
+use Rattle.std.proofs.Common.{◌≡◌, sym, ap, ◌∙◌, subst, ◌<◌, rules, arith}
 use Rattle.sheet.specs.Layout.{count_of, code_of}
 use Rattle.stackless_bytecode.specs.declared.Bytecode.{Bytecode}
 use Rattle.stackless_bytecode.specs.Kinds.{at}
 use Rattle.livevar_analysis.specs.Live.{execute}
 use Rattle.sheet.specs.CheckLaws.{code_length}
-use Rattle.livevar_analysis.specs.Rules.{InRange, RuleRoom}
-use Rattle.livevar_analysis.specs.DecodeLaws.{RuledTo, ruled_none, ruled_all, ruled_more}
+use Rattle.livevar_analysis.specs.Rules.{InRange}
+use Rattle.livevar_analysis.specs.DecodeLaws.{ruled_all, ruled_more}
 use Rattle.livevar_analysis.specs.InputLaws.{code_at, in_range, record_inside}
 use Rattle.livevar_analysis.proofs.rules.decode_rules.Goals as goal
-use Rattle.livevar_analysis.proofs.rules.decode_rules.Invariants.{DecodedTo}
 
 pub instruction_at-requires : goal.instruction_at-requires
 instruction_at-requires c = record_inside c.args.sheet.now c.requires.0 c.loop-k.k (search rules)

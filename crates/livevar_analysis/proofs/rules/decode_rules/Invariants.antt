@@ -1,12 +1,6 @@
-use Rattle.std.proofs.Common.{◌≡◌, refl, sym, ap, ◌∙◌, subst, List, ℕ, ◌+◌, ◌-◌, ◌≤◌, ◌<◌, length}
-use Rattle.sheet.specs.Layout.{count_of, code_of}
-use Rattle.stackless_bytecode.specs.declared.Bytecode.{Bytecode}
-use Rattle.stackless_bytecode.specs.Kinds.{at}
-use Rattle.livevar_analysis.specs.Live.{execute}
-use Rattle.sheet.specs.CheckLaws.{code_length}
-use Rattle.livevar_analysis.specs.Rules.{InRange, RuleRoom}
-use Rattle.livevar_analysis.specs.DecodeLaws.{RuledTo, ruled_none, ruled_all, ruled_more}
-use Rattle.livevar_analysis.specs.InputLaws.{code_at, in_range, record_inside}
+use Rattle.std.proofs.Common.{◌≡◌, List, ℕ, ◌-◌, ◌≤◌, length}
+use Rattle.sheet.specs.Layout.{code_of}
+use Rattle.livevar_analysis.specs.DecodeLaws.{RuledTo}
 use Rattle.livevar_analysis.proofs.rules.decode_rules.Given as goal
 
 pub record DecodedTo (sheet : List ℕ) (n : ℕ) (rules₀ rules : List ℕ) (k : ℕ) : Type 0 where

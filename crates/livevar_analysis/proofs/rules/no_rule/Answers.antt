@@ -1,4 +1,3 @@
-use Rattle.std.proofs.Common.{rules}
 use Rattle.livevar_analysis.specs.DecodeLaws.{applied_none}
 use Rattle.livevar_analysis.proofs.rules.no_rule.Goals as goal
 

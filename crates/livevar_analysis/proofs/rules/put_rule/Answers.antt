@@ -1,5 +1,4 @@
 use Rattle.livevar_analysis.specs.DecodeLaws.{rule_put}
-use Rattle.std.proofs.Common.{rules}
 use Rattle.livevar_analysis.proofs.rules.put_rule.Goals as goal
 
 pub returns : goal.returns

@@ -1,4 +1,4 @@
-use Rattle.std.proofs.Common.{sym, ◌∙◌, rules}
+use Rattle.std.proofs.Common.{sym, ◌∙◌}
 use Rattle.livevar_analysis.specs.DecodeLaws.{decoded_assign, decoded_load, decoded_sources, none_is}
 use Rattle.livevar_analysis.proofs.rules.rule_of.Goals as goal
 

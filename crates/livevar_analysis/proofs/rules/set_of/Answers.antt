@@ -1,6 +1,5 @@
-use Rattle.std.proofs.Common.{◌≡◌, ◌∙◌, ◌≤◌, ◌<◌, ◌-◌, take, length, rules, arith}
+use Rattle.std.proofs.Common.{◌∙◌, ◌<◌, length, rules}
 use Rattle.dataflow_domains.specs.Mask.{set_of}
-use Rattle.dataflow_domains.specs.Sets.{mask}
 use Rattle.livevar_analysis.specs.DecodeLaws.{set_of_more}
 use Rattle.livevar_analysis.proofs.rules.set_of.Goals as goal
 

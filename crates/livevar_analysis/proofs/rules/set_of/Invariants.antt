@@ -1,7 +1,6 @@
-use Rattle.std.proofs.Common.{◌≡◌, ◌∙◌, ◌≤◌, ◌<◌, ◌-◌, take, length}
+use Rattle.std.proofs.Common.{◌≡◌, ◌≤◌, ◌-◌, take}
 use Rattle.dataflow_domains.specs.Mask.{set_of}
 use Rattle.dataflow_domains.specs.Sets.{mask}
-use Rattle.livevar_analysis.specs.DecodeLaws.{set_of_more}
 use Rattle.livevar_analysis.proofs.rules.set_of.Given as goal
 
 abbrev pub invariant-loop-i : goal.invariant-loop-i

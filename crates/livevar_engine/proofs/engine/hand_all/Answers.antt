@@ -1,11 +1,8 @@
-use Rattle.std.proofs.Common.{◌≡◌, List, ℕ, ◌+◌, ◌-◌, ◌≤◌, ◌<◌, length, get_or, rules, arith}
-use Rattle.base.specs.Lists.{tab}
+use Rattle.std.proofs.Common.{◌≡◌, ◌+◌, ◌-◌, ◌<◌, length, get_or, rules, arith}
 use Rattle.base.specs.ListLaws.{length_tab, get_d_tab}
-use Rattle.dataflow_domains.specs.Sets.{mask}
-use Rattle.dataflow_analysis.specs.declared.Cursor.{Cursor}
-use Rattle.livevar_analysis.specs.EngineLaws.{Handing, hand_none, hand_asks, hand_more, hand_all}
+use Rattle.livevar_analysis.specs.EngineLaws.{hand_none, hand_asks, hand_more, hand_all}
 use Rattle.livevar_engine.proofs.engine.hand_all.Goals as goal
-use Rattle.livevar_engine.proofs.engine.hand_all.Invariants.{Held, blocks}
+use Rattle.livevar_engine.proofs.engine.hand_all.Invariants.{blocks}
 
 pub loop-k-init : goal.loop-k-init
 loop-k-init c = record { hands = hand_none _ _ _ _ _ _ _ c.requires.0; block = search rules }

@@ -1,9 +1,8 @@
-use Rattle.std.proofs.Common.{◌≡◌, List, ℕ, ◌+◌, ◌-◌, ◌≤◌, ◌<◌, length, get_or}
+use Rattle.std.proofs.Common.{List, ℕ, ◌-◌, ◌≤◌, length}
 use Rattle.base.specs.Lists.{tab}
-use Rattle.base.specs.ListLaws.{length_tab, get_d_tab}
 use Rattle.dataflow_domains.specs.Sets.{mask}
 use Rattle.dataflow_analysis.specs.declared.Cursor.{Cursor}
-use Rattle.livevar_analysis.specs.EngineLaws.{Handing, hand_none, hand_asks, hand_more, hand_all}
+use Rattle.livevar_analysis.specs.EngineLaws.{Handing}
 use Rattle.livevar_engine.proofs.engine.hand_all.Given as goal
 
 abbrev pub blocks : ℕ → List ℕ

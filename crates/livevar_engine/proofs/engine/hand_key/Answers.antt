@@ -1,8 +1,4 @@
-use Rattle.std.proofs.Common.{◌≡◌, refl, sym, ap, ◌∙◌, List, ℕ, ◌+◌, ◌-◌, ◌≤◌, ◌<◌, length, get_or, take, drop, arith, rules}
-use Rattle.stackless_bytecode.specs.declared.Bytecode.{Bytecode}
-use Rattle.stackless_control_flow_graph.specs.Blocks.{keyed}
-use Rattle.stackless_control_flow_graph.specs.Graph.{Edges}
-use Rattle.livevar_analysis.specs.Engine.{leads}
+use Rattle.std.proofs.Common.{refl, sym}
 use Rattle.livevar_analysis.specs.EngineLaws.{can_hand_as, handed_as, leads_all}
 use Rattle.livevar_engine.proofs.engine.hand_key.Goals as goal
 

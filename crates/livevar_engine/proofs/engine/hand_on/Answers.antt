@@ -1,6 +1,5 @@
-use Rattle.std.proofs.Common.{refl, ◌-◌, length, rules}
-use Rattle.dataflow_domains.specs.Sets.{mask}
-use Rattle.livevar_analysis.specs.EngineLaws.{Handing, hand_none, hand_asks, hand_more, hand_all}
+use Rattle.std.proofs.Common.{refl}
+use Rattle.livevar_analysis.specs.EngineLaws.{hand_none, hand_asks, hand_more}
 use Rattle.livevar_engine.proofs.engine.hand_on.Goals as goal
 
 pub loop-i-init : goal.loop-i-init

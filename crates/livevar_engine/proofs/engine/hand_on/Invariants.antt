@@ -1,6 +1,6 @@
-use Rattle.std.proofs.Common.{refl, ◌-◌, length}
+use Rattle.std.proofs.Common.{◌-◌, length}
 use Rattle.dataflow_domains.specs.Sets.{mask}
-use Rattle.livevar_analysis.specs.EngineLaws.{Handing, hand_none, hand_asks, hand_more, hand_all}
+use Rattle.livevar_analysis.specs.EngineLaws.{Handing}
 use Rattle.livevar_engine.proofs.engine.hand_on.Given as goal
 
 abbrev pub invariant-loop-i : goal.invariant-loop-i

@@ -1,4 +1,4 @@
-use Rattle.std.proofs.Common.{◌≡◌, sym, ap, ◌∙◌, ℕ, ◌-◌, ◌≤◌, get_or, arith, rules}
+use Rattle.std.proofs.Common.{◌≡◌, sym, ap, ◌∙◌, ℕ, ◌-◌, ◌≤◌, get_or, arith}
 use Rattle.dataflow_domains.specs.Sets.{mask, stored_set}
 use Rattle.livevar_analysis.specs.EngineLaws.{out_dummy, out_block}
 use Rattle.livevar_engine.proofs.engine.out_of.Goals as goal

@@ -1,6 +1,6 @@
-use Rattle.std.proofs.Common.{◌≡◌, sym, ◌∙◌, ◌+◌, ◌-◌, length, rules, arith}
+use Rattle.std.proofs.Common.{sym, ◌∙◌}
 use Rattle.dataflow_analysis.specs.QueueLaws.{Took, took_key, took_none}
-use Rattle.livevar_analysis.specs.RunLaws.{Held, held_begin, held_out, held_hands, held_head, held_more, held_done}
+use Rattle.livevar_analysis.specs.RunLaws.{held_begin, held_out, held_hands, held_more, held_done}
 use Rattle.livevar_engine.proofs.engine.run.Goals as goal
 
 pub loop-k-init : goal.loop-k-init

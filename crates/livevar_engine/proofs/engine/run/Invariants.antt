@@ -1,6 +1,5 @@
-use Rattle.std.proofs.Common.{◌≡◌, sym, ◌∙◌, ◌+◌, ◌-◌, length}
-use Rattle.dataflow_analysis.specs.QueueLaws.{Took, took_key, took_none}
-use Rattle.livevar_analysis.specs.RunLaws.{Held, held_begin, held_out, held_hands, held_head, held_more, held_done}
+use Rattle.std.proofs.Common.{◌-◌, length}
+use Rattle.livevar_analysis.specs.RunLaws.{Held}
 use Rattle.livevar_engine.proofs.engine.run.Given as goal
 
 abbrev pub invariant-loop-k : goal.invariant-loop-k

@@ -1,4 +1,4 @@
-use Rattle.std.proofs.Common.{arith, rules}
+use Rattle.std.proofs.Common.{arith}
 use Rattle.livevar_analysis.specs.RunLaws.{few_nodes, start_input}
 use Rattle.livevar_engine.proofs.engine.solve.Goals as goal
 

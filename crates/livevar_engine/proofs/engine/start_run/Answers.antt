@@ -1,6 +1,3 @@
-use Rattle.std.proofs.Common.{◌∙◌, List, ℕ, set, length-set, rules}
-use Rattle.stackless_bytecode.specs.declared.Bytecode.{Bytecode}
-use Rattle.livevar_analysis.specs.Engine.{Begun, RunInput}
 use Rattle.livevar_analysis.specs.RunLaws.{begun}
 use Rattle.livevar_engine.proofs.engine.start_run.Goals as goal
 

@@ -1,4 +1,4 @@
-use Rattle.std.proofs.Common.{sym, ap, ◌∙◌, Bool, cond, get_or, arith, rules}
+use Rattle.std.proofs.Common.{sym, ap, ◌∙◌, Bool, cond, get_or}
 use Rattle.dataflow_domains.specs.Sets.{mask, stored_set}
 use Rattle.livevar_analysis.specs.Output.{after_by}
 use Rattle.livevar_output.proofs.output.after_of.Goals as goal

@@ -1,13 +1,10 @@
-use Rattle.std.proofs.Common.{◌≡◌, refl, sym, ap, ◌∙◌, List, ◌++◌, ℕ, ◌*◌, ◌≤◌, length, drop, rules, arith}
+use Rattle.std.proofs.Common.{refl, sym, ap, ◌∙◌, ◌++◌, ℕ, ◌*◌, drop, rules, arith}
 use Rattle.base.specs.Sizes.{pair_bytes}
 use Rattle.dataflow_domains.specs.Sets.{mask}
-use Rattle.stackless_bytecode.specs.declared.Bytecode.{Bytecode}
 use Rattle.livevar_analysis.specs.Analysis.{live_bytes}
-use Rattle.livevar_analysis.specs.Rules.{Ruled}
-use Rattle.livevar_analysis.specs.Output.{infos_by, Blocked}
-use Rattle.livevar_analysis.specs.OutputLaws.{InfoWritten, written_none, written_step, written_all}
+use Rattle.livevar_analysis.specs.Output.{infos_by}
+use Rattle.livevar_analysis.specs.OutputLaws.{written_none, written_step, written_all}
 use Rattle.livevar_output.proofs.output.write_info.Goals as goal
-use Rattle.livevar_output.proofs.output.write_info.Invariants.{WrittenFrom}
 
 pub loop-k-init : goal.loop-k-init
 loop-k-init c = let s = c.args in record { within = omega arith; long = refl; same = λ code ms e ruled known. written_none code ms s.out.now s.n _ e }

@@ -1,11 +1,9 @@
-use Rattle.std.proofs.Common.{◌≡◌, refl, sym, ap, ◌∙◌, List, ◌++◌, ℕ, ◌*◌, ◌≤◌, length, drop}
-use Rattle.base.specs.Sizes.{pair_bytes}
+use Rattle.std.proofs.Common.{◌≡◌, List, ℕ, ◌≤◌, length}
 use Rattle.dataflow_domains.specs.Sets.{mask}
 use Rattle.stackless_bytecode.specs.declared.Bytecode.{Bytecode}
-use Rattle.livevar_analysis.specs.Analysis.{live_bytes}
 use Rattle.livevar_analysis.specs.Rules.{Ruled}
-use Rattle.livevar_analysis.specs.Output.{infos_by, Blocked}
-use Rattle.livevar_analysis.specs.OutputLaws.{InfoWritten, written_none, written_step, written_all}
+use Rattle.livevar_analysis.specs.Output.{Blocked}
+use Rattle.livevar_analysis.specs.OutputLaws.{InfoWritten}
 use Rattle.livevar_output.proofs.output.write_info.Given as goal
 
 pub record WrittenFrom (rules keys sets : List ℕ) (n k m : ℕ) (old out : List ℕ) : Type 0 where

@@ -1,4 +1,4 @@
-use Rattle.std.proofs.Common.{refl, rules}
+use Rattle.std.proofs.Common.{refl}
 use Rattle.sheet.specs.Layout.{padded}
 use Rattle.livevar_transform.proofs.instructions.destroy.Goals as goal
 

@@ -1,4 +1,4 @@
-use Rattle.std.proofs.Common.{◌∙◌, ◌*◌, rules}
+use Rattle.std.proofs.Common.{◌∙◌, ◌*◌}
 use Rattle.base.specs.Sizes.{pair_bytes}
 use Rattle.livevar_transform.specs.PlanLaws.{after_part}
 use Rattle.livevar_transform.proofs.plan.after_at.Goals as goal

@@ -1,5 +1,4 @@
 use Rattle.livevar_transform.specs.LostLaws.{common_by}
-use Rattle.std.proofs.Common.{rules}
 use Rattle.livevar_transform.proofs.plan.common.Goals as goal
 
 pub returns : goal.returns

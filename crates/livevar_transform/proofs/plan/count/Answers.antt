@@ -1,7 +1,5 @@
-use Rattle.std.proofs.Common.{◌≡◌, ◌∙◌, ⊎_elim, not, eqb, get_or, ◌*◌, ◌-◌, ◌≤◌, rules, arith}
-use Rattle.base.specs.Lists.{count}
-use Rattle.livevar_transform.specs.Plan.{numbers_at}
-use Rattle.livevar_transform.specs.NumberLaws.{numbers_first, numbers_small, numbers_both, kept_none, kept_more, kept_same, counted}
+use Rattle.std.proofs.Common.{◌∙◌, arith}
+use Rattle.livevar_transform.specs.NumberLaws.{numbers_first, numbers_small, numbers_both, kept_none, kept_more, kept_same}
 use Rattle.livevar_transform.proofs.plan.count.Goals as goal
 use Rattle.livevar_transform.proofs.plan.count.Goals.{else-fates-k-ne-DROPPED, then-fates-k-ne-DROPPED}
 

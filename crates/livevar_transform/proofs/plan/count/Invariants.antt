@@ -1,7 +1,6 @@
-use Rattle.std.proofs.Common.{◌≡◌, ◌∙◌, ⊎_elim, not, eqb, get_or, ◌*◌, ◌-◌, ◌≤◌}
+use Rattle.std.proofs.Common.{◌≡◌, not, eqb, get_or, ◌*◌, ◌-◌, ◌≤◌}
 use Rattle.base.specs.Lists.{count}
 use Rattle.livevar_transform.specs.Plan.{numbers_at}
-use Rattle.livevar_transform.specs.NumberLaws.{numbers_first, numbers_small, numbers_both, kept_none, kept_more, kept_same, counted}
 use Rattle.livevar_transform.proofs.plan.count.Given as goal
 
 abbrev pub invariant-loop-k : goal.invariant-loop-k

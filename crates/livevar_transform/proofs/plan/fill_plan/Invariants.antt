@@ -1,10 +1,8 @@
-use Rattle.std.proofs.Common.{◌≡◌, refl, ◌-◌, ◌≤◌, length}
+use Rattle.std.proofs.Common.{◌≡◌, ◌-◌, ◌≤◌, length}
 use Rattle.dataflow_domains.specs.Sets.{mask}
 use Rattle.sheet.specs.Layout.{code_of}
 use Rattle.livevar_analysis.specs.Analysis.{infos_of}
 use Rattle.livevar_transform.specs.Plan.{is_behind, Planned}
-use Rattle.livevar_transform.specs.PlanLaws.{inside, behind_first, behind_next}
-use Rattle.livevar_transform.specs.LostLaws.{edges_room, planned_none, planned_more, planned_end}
 use Rattle.livevar_transform.proofs.plan.fill_plan.Given as goal
 
 abbrev pub invariant-loop-k : goal.invariant-loop-k

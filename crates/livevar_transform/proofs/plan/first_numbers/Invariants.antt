@@ -2,9 +2,8 @@ use Rattle.std.proofs.Common.{◌≡◌, ◌-◌, ◌≤◌, max, drop}
 use Rattle.base.specs.Lists.{gather}
 use Rattle.sheet.specs.Layout.{code_of}
 use Rattle.stackless_bytecode.specs.Kinds.{label_of}
-use Rattle.livevar_analysis.specs.InputLaws.{record_inside}
 use Rattle.livevar_transform.specs.Rewrite.{highest}
-use Rattle.livevar_transform.specs.HighestLaws.{attr_of, attr_raised, highest_turn, highest_done, highest_start, free_label, free_attr}
+use Rattle.livevar_transform.specs.HighestLaws.{attr_of}
 use Rattle.livevar_transform.proofs.plan.first_numbers.Given as goal
 
 abbrev pub invariant-loop-k : goal.invariant-loop-k

@@ -1,5 +1,5 @@
-use Rattle.std.proofs.Common.{inl, inr, rules}
-use Rattle.livevar_transform.specs.PlanLaws.{dst_low, dead_by, dead_not}
+use Rattle.std.proofs.Common.{inl, inr}
+use Rattle.livevar_transform.specs.PlanLaws.{dead_by, dead_not}
 use Rattle.livevar_transform.proofs.plan.is_dead.Goals as goal
 
 pub returns-in-0 : goal.returns-in-0

@@ -1,5 +1,4 @@
-use Rattle.livevar_transform.specs.PlanLaws.{inside, room_at, one_low, merged_call, merged_single, merged_last, merged_assign, merged_from, merged_by_lem}
-use Rattle.std.proofs.Common.{rules}
+use Rattle.livevar_transform.specs.PlanLaws.{inside, one_low, merged_call, merged_single, merged_last, merged_assign, merged_from, merged_by_lem}
 use Rattle.livevar_transform.proofs.plan.is_merged.Goals as goal
 
 pub returns-then-r-ne1 : goal.returns-then-r-ne1

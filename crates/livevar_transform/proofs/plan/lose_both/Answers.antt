@@ -1,5 +1,4 @@
 use Rattle.livevar_transform.specs.LostLaws.{both_lost}
-use Rattle.std.proofs.Common.{rules}
 use Rattle.livevar_transform.proofs.plan.lose_both.Goals as goal
 
 pub returns : goal.returns

@@ -1,4 +1,4 @@
-use Rattle.std.proofs.Common.{ap, ◌∙◌, get_or, ℕ, ◌*◌, arith, rules}
+use Rattle.std.proofs.Common.{ap, ◌∙◌, get_or, ℕ, ◌*◌}
 use Rattle.base.specs.Sizes.{set_bytes, pair_bytes}
 use Rattle.base.specs.Bytes.{number, part}
 use Rattle.livevar_transform.specs.PlanLaws.{before_part}

@@ -1,5 +1,4 @@
-use Rattle.livevar_transform.specs.NumberLaws.{wide_below, past_below, past_two}
-use Rattle.std.proofs.Common.{arith, rules}
+use Rattle.livevar_transform.specs.NumberLaws.{past_below}
 use Rattle.livevar_transform.proofs.plan.past_both.Goals as goal
 
 pub past-requires-2 : goal.past-requires-2

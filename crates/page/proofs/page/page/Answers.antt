@@ -1,4 +1,4 @@
-use Rattle.std.proofs.Common.{arith, rules, sym, length}
+use Rattle.std.proofs.Common.{arith, sym, length}
 use Rattle.base.specs.ReplyLaws.{refuses, done_result, done_output}
 use Rattle.listing.specs.OutputLaws.{wrote_whole}
 use Rattle.pages.specs.PageLaws.{page_short_lent, page_done}

@@ -1,4 +1,4 @@
-use Rattle.std.proofs.Common.{rules, ◌≡◌, List, ℕ, ◌*◌, length, replicate}
+use Rattle.std.proofs.Common.{◌≡◌, List, ℕ, ◌*◌, length, replicate}
 use Rattle.std.proofs.lemmas.List.{length-replicate}
 use Rattle.base.specs.Sizes.{row_numbers, max_instructions}
 use Rattle.listing.specs.OutputLaws.{wrote_as, wrote_then}

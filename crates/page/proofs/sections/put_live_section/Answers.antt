@@ -1,4 +1,3 @@
-use Rattle.std.proofs.Common.{rules}
 use Rattle.listing.specs.OutputLaws.{wrote_then}
 use Rattle.page.proofs.sections.put_live_section.Goals as goal
 

@@ -1,6 +1,4 @@
-use Rattle.std.proofs.Common.{arith, rules, sym, ap₂, ◌∙◌, ℕ, length-take-le}
-use Rattle.std.proofs.lemmas.List.{length-replicate}
-use Rattle.base.specs.Sizes.{max_bytes}
+use Rattle.std.proofs.Common.{sym, ap₂, ◌∙◌, length-take-le}
 use Rattle.listing.specs.Lines.{refused_text}
 use Rattle.listing.specs.OutputLaws.{wrote_as, wrote_then}
 use Rattle.pages.specs.PageLaws.{rewrite_refused, rewrite_written}

@@ -1,4 +1,3 @@
-use Rattle.std.proofs.Common.{rules}
 use Rattle.listing.specs.OutputLaws.{wrote_as, wrote_then}
 use Rattle.pages.specs.SectionLaws.{block_is}
 use Rattle.page_tables.proofs.blocks.put_block.Goals as goal

@@ -1,7 +1,5 @@
-use Rattle.std.proofs.Common.{rules, arith, ◌-◌, ◌≤◌}
-use Rattle.listing.specs.Output.{Wrote}
-use Rattle.listing.specs.OutputLaws.{wrote_as, wrote_none, wrote_then, wrote_length}
-use Rattle.pages.specs.Parts.{block_lines}
+use Rattle.std.proofs.Common.{arith}
+use Rattle.listing.specs.OutputLaws.{wrote_as, wrote_none, wrote_then}
 use Rattle.pages.specs.SectionLaws.{blocks_none, blocks_more, blocks_all}
 use Rattle.page_tables.proofs.blocks.put_blocks.Goals as goal
 

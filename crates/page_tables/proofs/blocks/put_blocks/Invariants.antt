@@ -1,8 +1,6 @@
 use Rattle.std.proofs.Common.{◌-◌, ◌≤◌}
 use Rattle.listing.specs.Output.{Wrote}
-use Rattle.listing.specs.OutputLaws.{wrote_as, wrote_none, wrote_then, wrote_length}
 use Rattle.pages.specs.Parts.{block_lines}
-use Rattle.pages.specs.SectionLaws.{blocks_none, blocks_more, blocks_all}
 use Rattle.page_tables.proofs.blocks.put_blocks.Given as goal
 
 abbrev pub invariant-loop-i : goal.invariant-loop-i

@@ -1,7 +1,5 @@
-use Rattle.std.proofs.Common.{rules, arith, ◌≡◌, sym, ◌∙◌, [], ◌-◌, ◌≤◌}
-use Rattle.sheet.specs.Layout.{code_of}
+use Rattle.std.proofs.Common.{arith, sym, ◌∙◌}
 use Rattle.sheet.specs.Shaped.{record_inside}
-use Rattle.pages.specs.Marks.{unnamed_to}
 use Rattle.pages.specs.UnnamedLaws.{unnamed_none, named_more, some_unnamed, all_named}
 use Rattle.page_tables.proofs.labels.all_named.Goals as goal
 

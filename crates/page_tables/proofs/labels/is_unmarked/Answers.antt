@@ -1,4 +1,3 @@
-use Rattle.std.proofs.Common.{rules}
 use Rattle.pages.specs.Marks.{is_unmarked}
 use Rattle.page_tables.proofs.labels.is_unmarked.Goals as goal
 

@@ -1,4 +1,3 @@
-use Rattle.std.proofs.Common.{rules}
 use Rattle.pages.specs.UnnamedLaws.{mark_skip, mark_put}
 use Rattle.page_tables.proofs.labels.mark_name.Goals as goal
 

@@ -1,9 +1,7 @@
-use Rattle.std.proofs.Common.{rules, arith, ◌≡◌, refl, ◌∙◌, ◌-◌, ◌*◌, ◌≤◌, length}
-use Rattle.sheet.specs.Layout.{code_of}
+use Rattle.std.proofs.Common.{arith, ◌∙◌}
 use Rattle.sheet.specs.Shaped.{record_inside}
 use Rattle.stackless_control_flow_graph.specs.CheckedSheetLaws.{checked_shaped}
-use Rattle.pages.specs.Marks.{MarkedTo}
-use Rattle.pages.specs.UnnamedLaws.{marks_none, mark_inside, mark_more, mark_end}
+use Rattle.pages.specs.UnnamedLaws.{mark_inside, mark_more, mark_end}
 use Rattle.page_tables.proofs.labels.mark_named.Goals as goal
 
 pub instruction_at-r-requires : goal.instruction_at-r-requires

@@ -1,4 +1,4 @@
-use Rattle.std.proofs.Common.{rules, sym, ◌∙◌, ℕ}
+use Rattle.std.proofs.Common.{sym, ◌∙◌, ℕ}
 use Rattle.listing.specs.Words.{ascii, said}
 use Rattle.listing.specs.OutputLaws.{wrote_as, wrote_by, wrote_none}
 use Rattle.pages.specs.UnnamedLaws.{unmarked_some, unmarked_none}

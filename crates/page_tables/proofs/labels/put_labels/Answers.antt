@@ -1,9 +1,6 @@
-use Rattle.std.proofs.Common.{rules, arith, ◌-◌, ◌≤◌}
-use Rattle.sheet.specs.Layout.{code_of}
+use Rattle.std.proofs.Common.{arith}
 use Rattle.sheet.specs.Shaped.{record_inside}
-use Rattle.listing.specs.Output.{Wrote}
-use Rattle.listing.specs.OutputLaws.{wrote_as, wrote_none, wrote_then, wrote_length}
-use Rattle.pages.specs.Marks.{unnamed_to}
+use Rattle.listing.specs.OutputLaws.{wrote_as, wrote_none, wrote_then}
 use Rattle.pages.specs.UnnamedLaws.{unnamed_none, unnamed_more, unnamed_all}
 use Rattle.page_tables.proofs.labels.put_labels.Goals as goal
 

@@ -1,4 +1,4 @@
-use Rattle.std.proofs.Common.{arith, rules, sym, ◌∙◌, ℕ}
+use Rattle.std.proofs.Common.{arith, sym, ◌∙◌, ℕ}
 use Rattle.std.proofs.lemmas.List.{length-replicate}
 use Rattle.base.specs.Sizes.{max_instructions}
 use Rattle.base.specs.ListLaws.{copies_at}

@@ -1,4 +1,3 @@
-use Rattle.std.proofs.Common.{rules}
 use Rattle.listing.specs.OutputLaws.{wrote_as, wrote_then}
 use Rattle.pages.specs.SectionLaws.{before_is}
 use Rattle.page_tables.proofs.sets.put_before.Goals as goal

@@ -1,8 +1,5 @@
-use Rattle.std.proofs.Common.{rules, arith, ◌-◌, ◌≤◌}
-use Rattle.livevar_analysis.specs.Analysis.{infos_of}
-use Rattle.listing.specs.Output.{Wrote}
-use Rattle.listing.specs.OutputLaws.{wrote_as, wrote_none, wrote_then, wrote_length}
-use Rattle.pages.specs.Parts.{live_lines}
+use Rattle.std.proofs.Common.{arith}
+use Rattle.listing.specs.OutputLaws.{wrote_as, wrote_none, wrote_then}
 use Rattle.pages.specs.SectionLaws.{live_none, live_more, live_all}
 use Rattle.page_tables.proofs.sets.put_lines.Goals as goal
 

@@ -1,9 +1,7 @@
 use Rattle.std.proofs.Common.{◌-◌, ◌≤◌}
 use Rattle.livevar_analysis.specs.Analysis.{infos_of}
 use Rattle.listing.specs.Output.{Wrote}
-use Rattle.listing.specs.OutputLaws.{wrote_as, wrote_none, wrote_then, wrote_length}
 use Rattle.pages.specs.Parts.{live_lines}
-use Rattle.pages.specs.SectionLaws.{live_none, live_more, live_all}
 use Rattle.page_tables.proofs.sets.put_lines.Given as goal
 
 abbrev pub invariant-loop-k : goal.invariant-loop-k

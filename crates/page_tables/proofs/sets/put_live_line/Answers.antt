@@ -1,4 +1,3 @@
-use Rattle.std.proofs.Common.{rules}
 use Rattle.listing.specs.OutputLaws.{wrote_as, wrote_then}
 use Rattle.pages.specs.SectionLaws.{live_line_is}
 use Rattle.page_tables.proofs.sets.put_live_line.Goals as goal

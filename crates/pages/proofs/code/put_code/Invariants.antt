@@ -1,11 +1,7 @@
-use Rattle.std.proofs.Common.{◌≡◌, ◌∙◌, ◌-◌, ◌≤◌, length}
+use Rattle.std.proofs.Common.{◌≡◌, ◌-◌, ◌≤◌, length}
 use Rattle.sheet.specs.Layout.{code_of}
-use Rattle.livevar_analysis.specs.InputLaws.{count_of_lem}
-use Rattle.stackless_control_flow_graph.specs.CheckedSheetLaws.{accepted_has}
 use Rattle.listing.specs.Output.{Wrote}
-use Rattle.listing.specs.OutputLaws.{wrote_as, wrote_none, wrote_then, wrote_length}
 use Rattle.pages.specs.Parts.{code_lines}
-use Rattle.pages.specs.CodeLaws.{lines_none, lines_more, lines_all, heading_there}
 use Rattle.pages.proofs.code.put_code.Given as goal
 
 abbrev pub invariant-loop-k : goal.invariant-loop-k

@@ -1,4 +1,4 @@
-use Rattle.std.proofs.Common.{rules, sym, ◌∙◌, ℕ, take}
+use Rattle.std.proofs.Common.{sym, ◌∙◌, ℕ, take}
 use Rattle.listing.specs.OutputLaws.{wrote_as, wrote_by, wrote_then}
 use Rattle.listing.specs.Words.{ascii}
 use Rattle.pages.specs.Words.{listed}

@@ -1,4 +1,3 @@
-use Rattle.std.proofs.Common.{rules}
 use Rattle.listing.specs.OutputLaws.{wrote_as, wrote_then}
 use Rattle.pages.specs.CodeLaws.{does_is}
 use Rattle.pages.proofs.code.put_does.Goals as goal

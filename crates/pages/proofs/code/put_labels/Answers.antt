@@ -1,4 +1,4 @@
-use Rattle.std.proofs.Common.{rules, ℕ}
+use Rattle.std.proofs.Common.{ℕ}
 use Rattle.listing.specs.OutputLaws.{wrote_as, wrote_by, wrote_none}
 use Rattle.listing.specs.Words.{ascii, said}
 use Rattle.pages.specs.CodeLaws.{labels_4, labels_5, labels_6, labels_none}

@@ -1,9 +1,7 @@
-use Rattle.std.proofs.Common.{rules, arith, ◌≡◌, sym, ◌-◌, ◌≤◌}
+use Rattle.std.proofs.Common.{arith, ◌≡◌, sym}
 use Rattle.base.specs.Sizes.{max_locals}
 use Rattle.base.specs.Bytes.{number}
-use Rattle.listing.specs.Output.{Wrote}
-use Rattle.listing.specs.OutputLaws.{wrote_as, wrote_none, wrote_then, wrote_length}
-use Rattle.pages.specs.Parts.{locals_below}
+use Rattle.listing.specs.OutputLaws.{wrote_as, wrote_none, wrote_then}
 use Rattle.pages.specs.CodeLaws.{below_none, below_more, below_all}
 use Rattle.pages.proofs.code.put_locals.Goals as goal
 

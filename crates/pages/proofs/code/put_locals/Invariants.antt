@@ -1,10 +1,8 @@
-use Rattle.std.proofs.Common.{◌≡◌, sym, ◌-◌, ◌≤◌}
+use Rattle.std.proofs.Common.{◌-◌, ◌≤◌}
 use Rattle.base.specs.Sizes.{max_locals}
 use Rattle.base.specs.Bytes.{number}
 use Rattle.listing.specs.Output.{Wrote}
-use Rattle.listing.specs.OutputLaws.{wrote_as, wrote_none, wrote_then, wrote_length}
 use Rattle.pages.specs.Parts.{locals_below}
-use Rattle.pages.specs.CodeLaws.{below_none, below_more, below_all}
 use Rattle.pages.proofs.code.put_locals.Given as goal
 
 abbrev pub invariant-loop-i : goal.invariant-loop-i

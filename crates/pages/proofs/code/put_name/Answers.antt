@@ -1,4 +1,4 @@
-use Rattle.std.proofs.Common.{rules, ap, ◌∙◌, ℕ}
+use Rattle.std.proofs.Common.{ap, ◌∙◌, ℕ}
 use Rattle.listing.specs.OutputLaws.{wrote_as, wrote_by, wrote_none}
 use Rattle.pages.specs.Words.{word}
 use Rattle.pages.specs.Code.{assigns, operations, constants, props}

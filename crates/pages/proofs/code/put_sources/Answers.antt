@@ -1,4 +1,4 @@
-use Rattle.std.proofs.Common.{rules, ℕ, take, []}
+use Rattle.std.proofs.Common.{ℕ, take, []}
 use Rattle.listing.specs.OutputLaws.{wrote_as, wrote_by}
 use Rattle.listing.specs.Words.{ascii}
 use Rattle.pages.specs.Words.{listed}

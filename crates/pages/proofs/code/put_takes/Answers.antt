@@ -1,4 +1,4 @@
-use Rattle.std.proofs.Common.{rules, ℕ}
+use Rattle.std.proofs.Common.{ℕ}
 use Rattle.listing.specs.OutputLaws.{wrote_as, wrote_by, wrote_then}
 use Rattle.listing.specs.Words.{ascii}
 use Rattle.pages.specs.Words.{marked}

@@ -1,4 +1,4 @@
-use Rattle.std.proofs.Common.{rules, arith, ◌≡◌, ◌∙◌, ◌-◌}
+use Rattle.std.proofs.Common.{arith, ◌≡◌, ◌∙◌, ◌-◌}
 use Rattle.pages.specs.WordLaws.{left_bar, left_on}
 use Rattle.pages.proofs.words.left_after.Goals as goal
 

@@ -1,4 +1,4 @@
-use Rattle.std.proofs.Common.{rules, ap, ℕ}
+use Rattle.std.proofs.Common.{ap, ℕ}
 use Rattle.listing.specs.OutputLaws.{wrote_as, wrote_then}
 use Rattle.listing.specs.Words.{said}
 use Rattle.pages.proofs.words.put_between.Goals as goal

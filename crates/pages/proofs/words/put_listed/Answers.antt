@@ -1,8 +1,6 @@
-use Rattle.std.proofs.Common.{rules, arith, sym, ap, ◌≢◌, ℕ, ◌-◌, ◌≤◌, length, take}
-use Rattle.listing.specs.Output.{Wrote}
-use Rattle.listing.specs.OutputLaws.{wrote_none, wrote_as, wrote_then, wrote_length}
-use Rattle.pages.specs.Words.{listed}
-use Rattle.pages.specs.WordLaws.{listed_none, listed_more, listed_all}
+use Rattle.std.proofs.Common.{arith, sym, ◌≢◌}
+use Rattle.listing.specs.OutputLaws.{wrote_none, wrote_as, wrote_then}
+use Rattle.pages.specs.WordLaws.{listed_none, listed_more}
 use Rattle.pages.proofs.words.put_listed.Goals as goal
 
 pub loop-i-init : goal.loop-i-init

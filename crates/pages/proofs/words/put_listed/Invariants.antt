@@ -1,8 +1,6 @@
-use Rattle.std.proofs.Common.{sym, ap, ◌≢◌, ℕ, ◌-◌, ◌≤◌, length, take}
+use Rattle.std.proofs.Common.{◌-◌, ◌≤◌, length, take}
 use Rattle.listing.specs.Output.{Wrote}
-use Rattle.listing.specs.OutputLaws.{wrote_none, wrote_as, wrote_then, wrote_length}
 use Rattle.pages.specs.Words.{listed}
-use Rattle.pages.specs.WordLaws.{listed_none, listed_more, listed_all}
 use Rattle.pages.proofs.words.put_listed.Given as goal
 
 abbrev pub invariant-loop-i : goal.invariant-loop-i

@@ -1,4 +1,3 @@
-use Rattle.std.proofs.Common.{rules}
 use Rattle.listing.specs.OutputLaws.{wrote_as, wrote_none}
 use Rattle.pages.specs.WordLaws.{marked_none, marked_some}
 use Rattle.pages.proofs.words.put_mark.Goals as goal

@@ -1,5 +1,4 @@
-use Rattle.std.proofs.Common.{rules}
-use Rattle.listing.specs.OutputLaws.{wrote_as, wrote_none, wrote_length}
+use Rattle.listing.specs.OutputLaws.{wrote_as, wrote_none}
 use Rattle.pages.specs.WordLaws.{shown_yes, shown_not}
 use Rattle.pages.proofs.words.put_shown.Goals as goal
 

@@ -1,5 +1,5 @@
-use Rattle.std.proofs.Common.{rules, arith, sym, ap, ◌∙◌, ℕ, ◌+◌, ◌-◌, ◌≤◌, length, drop}
-use Rattle.listing.specs.OutputLaws.{Goes, goes_start, goes_as, goes_on, goes_end, goes_length}
+use Rattle.std.proofs.Common.{arith, sym, ap, ◌∙◌, ℕ, ◌+◌, drop}
+use Rattle.listing.specs.OutputLaws.{goes_as, goes_on, goes_end}
 use Rattle.pages.specs.Words.{word}
 use Rattle.pages.specs.WordLaws.{word_ends, word_goes, word_end}
 use Rattle.pages.proofs.words.put_word.Goals as goal

@@ -1,7 +1,6 @@
-use Rattle.std.proofs.Common.{sym, ap, ◌∙◌, ℕ, ◌+◌, ◌-◌, ◌≤◌, length, drop}
-use Rattle.listing.specs.OutputLaws.{Goes, goes_start, goes_as, goes_on, goes_end, goes_length}
+use Rattle.std.proofs.Common.{◌-◌, ◌≤◌, length, drop}
+use Rattle.listing.specs.OutputLaws.{Goes}
 use Rattle.pages.specs.Words.{word}
-use Rattle.pages.specs.WordLaws.{word_ends, word_goes, word_end}
 use Rattle.pages.proofs.words.put_word.Given as goal
 
 abbrev pub invariant-loop-k : goal.invariant-loop-k

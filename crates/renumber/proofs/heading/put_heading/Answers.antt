@@ -1,5 +1,4 @@
 use Rattle.eliminate_unused_vars.specs.RenumberWorkLaws.{heading_put}
-use Rattle.std.proofs.Common.{rules}
 use Rattle.renumber.proofs.heading.put_heading.Goals as goal
 
 pub returns : goal.returns

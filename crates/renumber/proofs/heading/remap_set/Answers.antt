@@ -1,6 +1,6 @@
-use Rattle.std.proofs.Common.{◌≡◌, refl, ◌∙◌, ◌≤◌, ◌-◌, rules, arith}
+use Rattle.std.proofs.Common.{refl, ◌∙◌, rules, arith}
 use Rattle.dataflow_domains.specs.Sets.{mask}
-use Rattle.eliminate_unused_vars.specs.RenumberWorkLaws.{first_set, set_none, set_next, set_all}
+use Rattle.eliminate_unused_vars.specs.RenumberWorkLaws.{set_none, set_next, set_all}
 use Rattle.renumber.proofs.heading.remap_set.Goals as goal
 
 pub loop-i-init : goal.loop-i-init

@@ -1,6 +1,6 @@
-use Rattle.std.proofs.Common.{◌≡◌, refl, ◌∙◌, ◌≤◌, ◌-◌}
+use Rattle.std.proofs.Common.{◌≡◌, ◌≤◌, ◌-◌}
 use Rattle.dataflow_domains.specs.Sets.{mask}
-use Rattle.eliminate_unused_vars.specs.RenumberWorkLaws.{first_set, set_none, set_next, set_all}
+use Rattle.eliminate_unused_vars.specs.RenumberWorkLaws.{first_set}
 use Rattle.renumber.proofs.heading.remap_set.Given as goal
 
 abbrev pub invariant-loop-i : goal.invariant-loop-i

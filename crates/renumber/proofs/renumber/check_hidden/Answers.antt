@@ -1,4 +1,4 @@
-use Rattle.std.proofs.Common.{◌≡◌, sym, ap, ◌∙◌, not, List, ℕ, rules, arith}
+use Rattle.std.proofs.Common.{◌≡◌, sym, ap, ◌∙◌, not, List, ℕ, arith}
 use Rattle.base.specs.Lists.{first_bad}
 use Rattle.base.specs.Refusals.{found_of}
 use Rattle.base.specs.RefusalLaws.{found_at, refused_at, found_none, accepted_none}

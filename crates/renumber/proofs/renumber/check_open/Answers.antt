@@ -1,4 +1,4 @@
-use Rattle.std.proofs.Common.{sym, ◌∙◌, rules}
+use Rattle.std.proofs.Common.{sym, ◌∙◌}
 use Rattle.base.specs.RefusalLaws.{then_goes, refused_by, accepted_by}
 use Rattle.renumber.proofs.renumber.check_open.Goals as goal
 

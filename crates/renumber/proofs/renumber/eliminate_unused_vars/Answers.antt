@@ -1,4 +1,4 @@
-use Rattle.std.proofs.Common.{refl, ℕ, ◌-◌, ◌*◌, rules, arith}
+use Rattle.std.proofs.Common.{refl, ℕ, ◌-◌, ◌*◌, arith}
 use Rattle.std.proofs.lemmas.List.{length-replicate}
 use Rattle.base.specs.Sizes.{max_locals, block_bytes, max_blocks}
 use Rattle.base.specs.ListLaws.{copies_at}

@@ -1,10 +1,7 @@
-use Rattle.std.proofs.Common.{◌≡◌, sym, ap, ◌∙◌, not, ◌-◌}
+use Rattle.std.proofs.Common.{◌≡◌, not, ◌-◌}
 use Rattle.base.specs.Lists.{first_bad}
-use Rattle.base.specs.SearchLaws.{bad_start, bad_more, bad_stop, bad_end}
-use Rattle.base.specs.Refusals.{found_of}
 use Rattle.stackless_bytecode.specs.Kinds.{at}
 use Rattle.sheet.specs.Layout.{code_of}
-use Rattle.livevar_analysis.specs.InputLaws.{code_at, record_inside}
 use Rattle.eliminate_unused_vars.specs.Renumber.{hides_local}
 use Rattle.renumber.proofs.renumber.first_hidden.Given as goal
 

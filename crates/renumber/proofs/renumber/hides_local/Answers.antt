@@ -1,4 +1,4 @@
-use Rattle.std.proofs.Common.{ne_eqb, rules}
+use Rattle.std.proofs.Common.{ne_eqb}
 use Rattle.eliminate_unused_vars.specs.Renumber.{hides_local}
 use Rattle.renumber.proofs.renumber.hides_local.Goals as goal
 

@@ -1,4 +1,4 @@
-use Rattle.std.proofs.Common.{◌∙◌, rules, arith}
+use Rattle.std.proofs.Common.{◌∙◌, arith}
 use Rattle.sheet.specs.ValidLaws.{accepted_valid}
 use Rattle.eliminate_unused_vars.specs.NamesLaws.{named_few, named_inside, named_below}
 use Rattle.eliminate_unused_vars.specs.RenumberWorkLaws.{rest_is}

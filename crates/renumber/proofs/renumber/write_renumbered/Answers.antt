@@ -1,9 +1,8 @@
-use Rattle.std.proofs.Common.{sym, ap, ◌∙◌, rules, arith}
+use Rattle.std.proofs.Common.{sym, ap, ◌∙◌, arith}
 use Rattle.sheet.specs.Layout.{user_locals_of, record_blocks}
 use Rattle.sheet.specs.ValidLaws.{accepted_valid}
 use Rattle.sheet_writer.specs.SheetLaws.{few_blocks, blank_long, blank_holds}
 use Rattle.eliminate_unused_vars.specs.Renumber.{renumbered_code}
-use Rattle.eliminate_unused_vars.specs.NamesLaws.{same_room}
 use Rattle.eliminate_unused_vars.specs.RemapLaws.{new_length}
 use Rattle.eliminate_unused_vars.specs.RenumberWorkLaws.{new_written}
 use Rattle.renumber.proofs.renumber.write_renumbered.Goals as goal

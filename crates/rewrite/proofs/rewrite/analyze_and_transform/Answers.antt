@@ -1,7 +1,7 @@
 use Rattle.sheet.specs.ValidLaws.{accepted_valid}
 use Rattle.sheet.specs.CheckLaws.{code_length}
 use Rattle.livevar_transform.specs.RewriteCallLaws.{asked}
-use Rattle.std.proofs.Common.{rules, arith}
+use Rattle.std.proofs.Common.{arith}
 use Rattle.rewrite.proofs.rewrite.analyze_and_transform.Goals as goal
 
 pub analyze-requires : goal.analyze-requires

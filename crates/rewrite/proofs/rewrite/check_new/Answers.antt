@@ -1,4 +1,3 @@
-use Rattle.std.proofs.lemmas.Bool.{not-true, not-false}
 use Rattle.std.proofs.Common.{sym, ◌∙◌}
 use Rattle.base.specs.RefusalLaws.{then_goes, then_stops, accepted_whole, refused_whole}
 use Rattle.rewrite.proofs.rewrite.check_new.Goals as goal

@@ -1,4 +1,4 @@
-use Rattle.std.proofs.Common.{sym, ap, ◌∙◌, leb-true, arith, rules}
+use Rattle.std.proofs.Common.{sym, ap, ◌∙◌, leb-true, arith}
 use Rattle.base.specs.Refusals.{verdict_of}
 use Rattle.base.specs.RefusalLaws.{accepted_by, passed, passed_whole}
 use Rattle.livevar_transform.specs.PlanLaws.{long}

@@ -1,6 +1,6 @@
 use Rattle.sheet.specs.ValidLaws.{accepted_valid}
 use Rattle.sheet_writer.specs.SheetLaws.{few_blocks, blank_long, blank_holds}
-use Rattle.std.proofs.Common.{rules, arith}
+use Rattle.std.proofs.Common.{arith}
 use Rattle.rewrite.proofs.rewrite.write_new.Goals as goal
 
 pub write_sheet-requires : goal.write_sheet-requires

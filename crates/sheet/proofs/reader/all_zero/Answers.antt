@@ -1,6 +1,5 @@
-use Rattle.std.proofs.Common.{◌&&◌, ◌≡◌, refl, sym, ◌∙◌, ◌-◌, rules, length, drop, eqb}
+use Rattle.std.proofs.Common.{sym, ◌∙◌, rules}
 use Rattle.base.specs.ByteLaws.{zeros_or, zeros_or_end}
-use Rattle.base.specs.Lists.{zeros}
 use Rattle.sheet.proofs.reader.all_zero.Goals as goal
 
 pub loop-i-preserved : goal.loop-i-preserved

@@ -1,5 +1,4 @@
-use Rattle.std.proofs.Common.{◌&&◌, ◌≡◌, refl, sym, ◌∙◌, ◌-◌, length, drop, eqb}
-use Rattle.base.specs.ByteLaws.{zeros_or, zeros_or_end}
+use Rattle.std.proofs.Common.{◌&&◌, ◌≡◌, ◌-◌, length, drop, eqb}
 use Rattle.base.specs.Lists.{zeros}
 use Rattle.sheet.proofs.reader.all_zero.Given as goal
 

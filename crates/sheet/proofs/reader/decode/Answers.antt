@@ -1,4 +1,3 @@
-use Rattle.std.proofs.Common.{rules}
 use Rattle.sheet.specs.Layout.{decode}
 use Rattle.sheet.proofs.reader.decode.Goals as goal
 

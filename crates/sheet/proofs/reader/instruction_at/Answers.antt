@@ -1,4 +1,4 @@
-use Rattle.std.proofs.Common.{arith, rules, ◌≡◌, ap₂, ◌∙◌, List, ℕ, ◌+◌, ◌-◌, take, drop}
+use Rattle.std.proofs.Common.{arith, ◌≡◌, ap₂, ◌∙◌, List, ℕ, ◌+◌, ◌-◌, take, drop}
 use Rattle.base.specs.Sizes.{record_bytes}
 use Rattle.stackless_bytecode.specs.declared.Bytecode.{Bytecode}
 use Rattle.sheet.specs.Layout.{record_start, decode, instruction_at}

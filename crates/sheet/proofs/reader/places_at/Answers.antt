@@ -1,5 +1,5 @@
-use Rattle.std.proofs.Common.{refl, ◌-◌, arith, rules}
-use Rattle.base.specs.CopyLaws.{Copied, copied_more, copied_all}
+use Rattle.std.proofs.Common.{rules}
+use Rattle.base.specs.CopyLaws.{copied_all}
 use Rattle.base.specs.Sizes.{list_places}
 use Rattle.sheet.proofs.reader.places_at.Goals as goal
 

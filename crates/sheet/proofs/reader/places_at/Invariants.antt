@@ -1,5 +1,5 @@
-use Rattle.std.proofs.Common.{refl, ◌-◌}
-use Rattle.base.specs.CopyLaws.{Copied, copied_more, copied_all}
+use Rattle.std.proofs.Common.{◌-◌}
+use Rattle.base.specs.CopyLaws.{Copied}
 use Rattle.base.specs.Sizes.{list_places}
 use Rattle.sheet.proofs.reader.places_at.Given as goal
 

@@ -1,4 +1,4 @@
-use Rattle.std.proofs.Common.{rules, ◌≡◌, sym, ap, ap₂, ◌∙◌}
+use Rattle.std.proofs.Common.{◌≡◌, sym, ap, ap₂, ◌∙◌}
 use Rattle.base.specs.Lists.{first_bad}
 use Rattle.base.specs.RefusalLaws.{then_goes, then_assoc, refused_by, accepted_by, refused_not}
 use Rattle.stackless_bytecode.specs.Kinds.{at, stop_ok}

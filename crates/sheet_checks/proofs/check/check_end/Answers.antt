@@ -1,4 +1,4 @@
-use Rattle.std.proofs.Common.{rules, sym, ap, ◌∙◌, not}
+use Rattle.std.proofs.Common.{sym, ap, ◌∙◌, not}
 use Rattle.sheet_checks.specs.CodeLaws.{end_refused, end_accepted}
 use Rattle.sheet_checks.proofs.check.check_end.Goals as goal
 

@@ -1,4 +1,4 @@
-use Rattle.std.proofs.Common.{arith, rules, refl, sym, ◌∙◌}
+use Rattle.std.proofs.Common.{arith, refl, sym, ◌∙◌}
 use Rattle.base.specs.RefusalLaws.{then_goes, accepted_by, refused_by, refused_not}
 use Rattle.sheet.specs.FormLaws.{form_shaped}
 use Rattle.sheet.specs.Checks.{check_sheet}

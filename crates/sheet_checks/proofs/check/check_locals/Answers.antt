@@ -1,4 +1,4 @@
-use Rattle.std.proofs.Common.{arith, rules, ◌≡◌, sym, ap, ◌∙◌, ℕ, List}
+use Rattle.std.proofs.Common.{arith, ◌≡◌, sym, ap, ◌∙◌, ℕ, List}
 use Rattle.base.specs.RefusalLaws.{found_at, refused_at, found_none, accepted_none}
 use Rattle.base.specs.SearchLaws.{bad_lt}
 use Rattle.sheet.specs.Layout.{locals_of, code_of}

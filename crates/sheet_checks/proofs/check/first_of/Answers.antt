@@ -1,4 +1,4 @@
-use Rattle.std.proofs.Common.{refl, sym, ap, rules}
+use Rattle.std.proofs.Common.{refl, sym, ap}
 use Rattle.base.specs.Refusals.{verdict_of}
 use Rattle.base.specs.RefusalLaws.{then_goes, refused_by}
 use Rattle.sheet_checks.proofs.check.first_of.Goals as goal

@@ -1,5 +1,5 @@
-use Rattle.std.proofs.Common.{arith, rules, sym, ◌∙◌}
-use Rattle.sheet_checks.specs.CodeLaws.{repeats, labels_listed, labelled_repeated, labelled_undefined, labelled_all}
+use Rattle.std.proofs.Common.{arith, sym, ◌∙◌}
+use Rattle.sheet_checks.specs.CodeLaws.{repeats, labelled_repeated, labelled_undefined, labelled_all}
 use Rattle.base.specs.RefusalLaws.{found_at}
 use Rattle.base.specs.SearchLaws.{bad_lt}
 use Rattle.sheet.specs.Shaped.{code_size}

@@ -1,4 +1,3 @@
-use Rattle.std.proofs.Common.{rules}
 use Rattle.sheet.specs.BlockLaws.{check_is}
 use Rattle.sheet.specs.Checks.{block_ok}
 use Rattle.sheet_form.proofs.blocks.block_ok.Goals as goal

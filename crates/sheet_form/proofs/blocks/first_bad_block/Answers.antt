@@ -1,11 +1,7 @@
-use Rattle.std.proofs.Common.{List, Bool, ◌≡◌, refl, sym, ap, ◌∙◌, ℕ, ◌-◌, ◌/◌, arith, rules, length}
+use Rattle.std.proofs.Common.{sym, ap, ◌∙◌}
 use Rattle.std.proofs.Math.Nat.{add-sub_cancel_left}
-use Rattle.std.proofs.lemmas.Bool.{not-true, not-false}
-use Rattle.base.specs.Sizes.{block_bytes}
 use Rattle.base.specs.SearchLaws.{bad_more, bad_stop, bad_end}
-use Rattle.base.specs.Lists.{first_bad}
 use Rattle.base.specs.Refusals.{found_of}
-use Rattle.sheet.specs.Checks.{block_ok}
 use Rattle.sheet.specs.Layout.{block_at}
 use Rattle.sheet_form.proofs.blocks.first_bad_block.Goals as goal
 use Rattle.sheet_form.proofs.blocks.first_bad_block.Invariants.{ok_at}

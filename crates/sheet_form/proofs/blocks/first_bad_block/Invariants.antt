@@ -1,10 +1,6 @@
-use Rattle.std.proofs.Common.{List, Bool, ◌≡◌, refl, sym, ap, ◌∙◌, ℕ, ◌-◌, ◌/◌, length}
-use Rattle.std.proofs.Math.Nat.{add-sub_cancel_left}
-use Rattle.std.proofs.lemmas.Bool.{not-true, not-false}
+use Rattle.std.proofs.Common.{List, Bool, ◌≡◌, ℕ, ◌-◌, ◌/◌, length}
 use Rattle.base.specs.Sizes.{block_bytes}
-use Rattle.base.specs.SearchLaws.{bad_more, bad_stop, bad_end}
 use Rattle.base.specs.Lists.{first_bad}
-use Rattle.base.specs.Refusals.{found_of}
 use Rattle.sheet.specs.Checks.{block_ok}
 use Rattle.sheet.specs.Layout.{block_at}
 use Rattle.sheet_form.proofs.blocks.first_bad_block.Given as goal

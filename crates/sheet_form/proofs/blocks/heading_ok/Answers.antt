@@ -1,4 +1,3 @@
-use Rattle.std.proofs.Common.{rules}
 use Rattle.sheet.specs.Layout.{count_of, locals_of, user_locals_of, parameters_of, refs_of}
 use Rattle.sheet.specs.Checks.{heading_ok}
 use Rattle.sheet_form.proofs.blocks.heading_ok.Goals as goal

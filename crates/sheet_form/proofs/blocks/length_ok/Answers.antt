@@ -1,4 +1,4 @@
-use Rattle.std.proofs.Common.{refl, rules}
+use Rattle.std.proofs.Common.{refl}
 use Rattle.sheet.specs.Checks.{length_ok}
 use Rattle.sheet_form.proofs.blocks.length_ok.Goals as goal
 

@@ -1,5 +1,4 @@
-use Rattle.std.proofs.Common.{◌≡◌, refl, sym, ap, ◌∙◌, ℕ, ◌+◌, ◌-◌, ◌^◌, arith, rules, ltb, length, drop}
-use Rattle.std.proofs.lemmas.Bool.{not-true, not-false}
+use Rattle.std.proofs.Common.{sym, ap, ◌∙◌, ℕ, ◌+◌, ◌^◌, arith, rules, ltb, drop}
 use Rattle.base.specs.Bytes.{number}
 use Rattle.base.specs.ByteLaws.{below_more, below_stop, below_end}
 use Rattle.sheet_form.proofs.blocks.mask_below.Goals as goal

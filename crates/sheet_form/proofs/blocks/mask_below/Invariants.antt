@@ -1,7 +1,5 @@
-use Rattle.std.proofs.Common.{◌≡◌, refl, sym, ap, ◌∙◌, ℕ, ◌+◌, ◌-◌, ◌^◌, ltb, length, drop}
-use Rattle.std.proofs.lemmas.Bool.{not-true, not-false}
+use Rattle.std.proofs.Common.{◌≡◌, ◌-◌, ◌^◌, ltb, length, drop}
 use Rattle.base.specs.Bytes.{number}
-use Rattle.base.specs.ByteLaws.{below_more, below_stop, below_end}
 use Rattle.sheet_form.proofs.blocks.mask_below.Given as goal
 
 abbrev pub invariant-loop-i : goal.invariant-loop-i

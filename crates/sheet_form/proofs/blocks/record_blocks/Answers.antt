@@ -1,4 +1,4 @@
-use Rattle.std.proofs.Common.{refl, arith, rules}
+use Rattle.std.proofs.Common.{refl, arith}
 use Rattle.sheet.specs.Layout.{record_blocks}
 use Rattle.sheet_form.proofs.blocks.record_blocks.Goals as goal
 

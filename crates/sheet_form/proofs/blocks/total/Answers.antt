@@ -1,5 +1,4 @@
-use Rattle.std.proofs.Common.{◌≡◌, ◌+◌, ◌≤◌, ◌*◌, ◌-◌, arith, rules, length, drop}
-use Rattle.base.specs.Lists.{sum}
+use Rattle.std.proofs.Common.{arith}
 use Rattle.base.specs.ByteLaws.{sum_more, sum_end}
 use Rattle.sheet_form.proofs.blocks.total.Goals as goal
 

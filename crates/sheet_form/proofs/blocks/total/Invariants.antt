@@ -1,6 +1,5 @@
 use Rattle.std.proofs.Common.{◌≡◌, ◌+◌, ◌≤◌, ◌*◌, ◌-◌, length, drop}
 use Rattle.base.specs.Lists.{sum}
-use Rattle.base.specs.ByteLaws.{sum_more, sum_end}
 use Rattle.sheet_form.proofs.blocks.total.Given as goal
 
 abbrev pub invariant-loop-i : goal.invariant-loop-i

@@ -1,4 +1,4 @@
-use Rattle.std.proofs.Common.{arith, rules, sym, ◌∙◌}
+use Rattle.std.proofs.Common.{arith, sym, ◌∙◌}
 use Rattle.base.specs.RefusalLaws.{found_at, refused_at, found_none, accepted_none}
 use Rattle.base.specs.SearchLaws.{bad_lt}
 use Rattle.sheet_form.proofs.form.check_blocks.Goals as goal

@@ -1,4 +1,4 @@
-use Rattle.std.proofs.Common.{rules, sym, ◌∙◌}
+use Rattle.std.proofs.Common.{sym, ◌∙◌}
 use Rattle.base.specs.RefusalLaws.{then_goes, passed_whole, refused_by, accepted_by}
 use Rattle.sheet.specs.FormLaws.{length_sized}
 use Rattle.sheet.specs.Checks.{check_form}

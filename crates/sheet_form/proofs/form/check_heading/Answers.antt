@@ -1,4 +1,4 @@
-use Rattle.std.proofs.Common.{rules, sym, ◌∙◌}
+use Rattle.std.proofs.Common.{sym, ◌∙◌}
 use Rattle.base.specs.RefusalLaws.{refused_whole, accepted_whole}
 use Rattle.sheet_form.proofs.form.check_heading.Goals as goal
 

@@ -1,10 +1,7 @@
-use Rattle.std.proofs.Common.{◌≡◌, refl, sym, ap, ◌∙◌, ℕ, ◌+◌, ◌-◌, ◌≤◌, arith, rules}
-use Rattle.std.proofs.lemmas.Bool.{not-true, not-false}
+use Rattle.std.proofs.Common.{refl, sym, ap, ◌∙◌, arith, rules}
 use Rattle.base.specs.SearchLaws.{bad_more, bad_stop, bad_end}
-use Rattle.base.specs.Lists.{first_bad}
-use Rattle.base.specs.Sizes.{block_records}
 use Rattle.base.specs.Refusals.{found_of}
-use Rattle.sheet_form.specs.BlockSearch.{in_block, place_in, row_in, no_kind}
+use Rattle.sheet_form.specs.BlockSearch.{place_in, no_kind}
 use Rattle.sheet_form.proofs.records.first_bad_in.Goals as goal
 
 pub returns-then-kind-ge-KINDS : goal.returns-then-kind-ge-KINDS

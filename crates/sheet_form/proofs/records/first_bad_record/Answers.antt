@@ -1,4 +1,4 @@
-use Rattle.std.proofs.Common.{◌≡◌, sym, ap, ◌∙◌, ℕ, ◌-◌, ◌*◌, ◌≤◌, arith, rules}
+use Rattle.std.proofs.Common.{◌≡◌, sym, ap, ◌∙◌, ℕ, ◌-◌, ◌*◌, arith, rules}
 use Rattle.base.specs.Lists.{first_bad}
 use Rattle.base.specs.Sizes.{block_records}
 use Rattle.sheet.specs.Layout.{record_blocks}

@@ -1,10 +1,8 @@
-use Rattle.std.proofs.Common.{◌≡◌, sym, ap, ◌∙◌, ℕ, ◌-◌, ◌*◌, ◌≤◌}
+use Rattle.std.proofs.Common.{◌≡◌, ◌-◌, ◌*◌, ◌≤◌}
 use Rattle.base.specs.Lists.{first_bad}
 use Rattle.base.specs.Sizes.{block_records}
 use Rattle.sheet.specs.Layout.{record_blocks}
 use Rattle.sheet.specs.Checks.{place_ok}
-use Rattle.base.specs.Refusals.{found_of}
-use Rattle.sheet_form.specs.BlockSearch.{pass_block, stop_block}
 use Rattle.sheet_form.proofs.records.first_bad_record.Given as goal
 
 abbrev pub invariant-loop-b : goal.invariant-loop-b

@@ -1,5 +1,4 @@
-use Rattle.std.proofs.Common.{◌&&◌, sym, ap₂, ◌∙◌, rules}
-use Rattle.std.proofs.lemmas.Bool.{not-true, not-false}
+use Rattle.std.proofs.Common.{◌&&◌, sym, ap₂, ◌∙◌}
 use Rattle.sheet_form.specs.RowLaws.{no_ranges, no_unused, lists_left}
 use Rattle.sheet_form.proofs.records.fits.Goals as goal
 

@@ -1,4 +1,4 @@
-use Rattle.std.proofs.Common.{arith, rules}
+use Rattle.std.proofs.Common.{arith}
 use Rattle.base.specs.ByteLaws.{number_more, number_end, bytes_eight}
 use Rattle.sheet_form.proofs.records.number_of.Goals as goal
 

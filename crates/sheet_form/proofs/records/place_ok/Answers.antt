@@ -1,4 +1,4 @@
-use Rattle.std.proofs.Common.{◌∙◌, rules}
+use Rattle.std.proofs.Common.{◌∙◌}
 use Rattle.sheet.specs.Checks.{record_ok}
 use Rattle.sheet.specs.Layout.{decode}
 use Rattle.sheet_form.proofs.records.place_ok.Goals as goal

@@ -1,4 +1,4 @@
-use Rattle.std.proofs.Common.{sym, ap, ◌∙◌, ℕ, ◌*◌, ◌/◌, ◌^◌, arith, rules, eqb, drop_of_length-le}
+use Rattle.std.proofs.Common.{sym, ap, ◌∙◌, ℕ, ◌*◌, ◌/◌, ◌^◌, arith, eqb, drop_of_length-le}
 use Rattle.base.specs.Lists.{zeros}
 use Rattle.base.specs.ByteLaws.{zeros_shift}
 use Rattle.sheet_form.proofs.records.zero_from.Goals as goal

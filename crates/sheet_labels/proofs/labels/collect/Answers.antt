@@ -1,9 +1,8 @@
-use Rattle.std.proofs.Common.{arith, sym, ap, ◌∙◌, ⊎_elim, ◌-◌, eqb, set, rules}
+use Rattle.std.proofs.Common.{arith, sym, ap, ◌∙◌, eqb, set, rules}
 use Rattle.stackless_bytecode.specs.declared.Bytecode.{Bytecode}
 use Rattle.stackless_bytecode.specs.Kinds.{Label}
-use Rattle.sheet.specs.Layout.{code_of}
 use Rattle.sheet.specs.Shaped.{record_inside, code_at, code_size}
-use Rattle.sheet_labels.specs.LabelLaws.{Pass, pass_none, pass_skip, pass_stop, pass_more, labels_repeated, labels_count}
+use Rattle.sheet_labels.specs.LabelLaws.{pass_none, pass_skip, pass_stop, pass_more, labels_repeated, labels_count}
 use Rattle.sheet_labels.proofs.labels.collect.Goals as goal
 use Rattle.sheet_labels.proofs.labels.collect.Goals.{else-is_label, then-is_label+else-has_bit}
 

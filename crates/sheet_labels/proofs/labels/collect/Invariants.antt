@@ -1,9 +1,6 @@
-use Rattle.std.proofs.Common.{sym, ap, ◌∙◌, ⊎_elim, ◌-◌, eqb, set}
-use Rattle.stackless_bytecode.specs.declared.Bytecode.{Bytecode}
-use Rattle.stackless_bytecode.specs.Kinds.{Label}
+use Rattle.std.proofs.Common.{◌-◌}
 use Rattle.sheet.specs.Layout.{code_of}
-use Rattle.sheet.specs.Shaped.{record_inside, code_at, code_size}
-use Rattle.sheet_labels.specs.LabelLaws.{Pass, pass_none, pass_skip, pass_stop, pass_more, labels_repeated, labels_count}
+use Rattle.sheet_labels.specs.LabelLaws.{Pass}
 use Rattle.sheet_labels.proofs.labels.collect.Given as goal
 
 abbrev pub invariant-loop-k : goal.invariant-loop-k

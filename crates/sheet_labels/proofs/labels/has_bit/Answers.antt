@@ -1,4 +1,4 @@
-use Rattle.std.proofs.Common.{ap, ℕ, ◌/◌, ◌%◌, ◌^◌, eqb, get_or, rules}
+use Rattle.std.proofs.Common.{ap, ℕ, ◌/◌, ◌%◌, ◌^◌, eqb, get_or}
 use lib.Bits.{and_mask}
 use Rattle.dataflow_domains.specs.Mask.{bit, holds}
 use Rattle.sheet_labels.proofs.labels.has_bit.Goals as goal

@@ -1,4 +1,4 @@
-use Rattle.std.proofs.Common.{sym, ap, ◌∙◌, arith, rules}
+use Rattle.std.proofs.Common.{sym, ap, ◌∙◌, arith}
 use Rattle.stackless_bytecode.specs.Kinds.{falls_through}
 use Rattle.sheet.specs.Shaped.{record_inside, code_at}
 use Rattle.sheet_labels.proofs.labels.last_falls.Goals as goal

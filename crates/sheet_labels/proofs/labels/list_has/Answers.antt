@@ -1,5 +1,4 @@
-use Rattle.std.proofs.Common.{◌≡◌, refl, ◌||◌, ◌-◌, ◌≤◌, length, drop, rules, arith}
-use Rattle.base.specs.Lists.{has}
+use Rattle.std.proofs.Common.{arith}
 use Rattle.sheet_labels.specs.NameLaws.{list_more, list_end}
 use Rattle.sheet_labels.proofs.labels.list_has.Goals as goal
 

@@ -1,6 +1,5 @@
-use Rattle.std.proofs.Common.{◌≡◌, refl, ◌||◌, ◌-◌, ◌≤◌, length, drop}
+use Rattle.std.proofs.Common.{◌≡◌, ◌||◌, ◌-◌, ◌≤◌, length, drop}
 use Rattle.base.specs.Lists.{has}
-use Rattle.sheet_labels.specs.NameLaws.{list_more, list_end}
 use Rattle.sheet_labels.proofs.labels.list_has.Given as goal
 
 abbrev pub invariant-loop-i : goal.invariant-loop-i

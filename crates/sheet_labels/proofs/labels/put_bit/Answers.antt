@@ -1,4 +1,4 @@
-use Rattle.std.proofs.Common.{ap, ◌∙◌, ℕ, ◌/◌, ◌%◌, ◌^◌, one-mul, bit_or, get_or, set, shl_exact, arith, rules}
+use Rattle.std.proofs.Common.{ap, ◌∙◌, ℕ, ◌/◌, ◌%◌, ◌^◌, one-mul, bit_or, get_or, set, shl_exact, arith}
 use Rattle.dataflow_domains.specs.Mask.{union}
 use Rattle.sheet_labels.proofs.labels.put_bit.Goals as goal
 

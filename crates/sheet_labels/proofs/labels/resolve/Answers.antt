@@ -1,10 +1,8 @@
-use Rattle.std.proofs.Common.{sym, ap, ◌∙◌, ⊎_elim, ◌-◌, ◌*◌, length, rules, arith}
+use Rattle.std.proofs.Common.{sym, ap, ◌∙◌, rules, arith}
 use Rattle.base.specs.Lists.{has}
-use Rattle.sheet.specs.Layout.{code_of}
 use Rattle.sheet.specs.Shaped.{record_inside, code_size}
 use Rattle.sheet.specs.LabelLaws.{slot_is, code_below}
-use Rattle.sheet_labels.specs.Labelled.{Search}
-use Rattle.sheet_labels.specs.NameLaws.{search_more, search_end, Slots, slots_none, slots_skip, slots_found, slots_missing, listed_length, named_missing, named_all}
+use Rattle.sheet_labels.specs.NameLaws.{search_more, search_end, slots_skip, slots_found, slots_missing, listed_length, named_missing, named_all}
 use Rattle.sheet_labels.proofs.labels.resolve.Goals as goal
 use Rattle.sheet_labels.proofs.labels.resolve.Goals.{else-l-ne-NO_LABEL, then-l-ne-NO_LABEL+else-j-labels+then-u16_to_u32-l}
 

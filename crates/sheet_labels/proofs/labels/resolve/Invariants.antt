@@ -1,10 +1,7 @@
-use Rattle.std.proofs.Common.{sym, ap, ◌∙◌, ⊎_elim, ◌-◌, ◌*◌, length}
-use Rattle.base.specs.Lists.{has}
+use Rattle.std.proofs.Common.{◌-◌, ◌*◌, length}
 use Rattle.sheet.specs.Layout.{code_of}
-use Rattle.sheet.specs.Shaped.{record_inside, code_size}
-use Rattle.sheet.specs.LabelLaws.{slot_is, code_below}
 use Rattle.sheet_labels.specs.Labelled.{Search}
-use Rattle.sheet_labels.specs.NameLaws.{search_more, search_end, Slots, slots_none, slots_skip, slots_found, slots_missing, listed_length, named_missing, named_all}
+use Rattle.sheet_labels.specs.NameLaws.{Slots}
 use Rattle.sheet_labels.proofs.labels.resolve.Given as goal
 
 abbrev pub invariant-loop-j : goal.invariant-loop-j

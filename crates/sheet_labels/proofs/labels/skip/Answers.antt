@@ -1,6 +1,5 @@
-use Rattle.std.proofs.Common.{◌≡◌, sym, ◌∙◌, ◌+◌, ◌-◌, length, rules, arith}
-use Rattle.sheet_labels.specs.Labelled.{Search}
-use Rattle.sheet_labels.specs.NameLaws.{search_none, search_part}
+use Rattle.std.proofs.Common.{◌≡◌, sym, ◌∙◌, ◌+◌, ◌-◌, arith}
+use Rattle.sheet_labels.specs.NameLaws.{search_part}
 use Rattle.sheet_labels.proofs.labels.skip.Goals as goal
 
 pub loop-j-preserved : goal.loop-j-preserved

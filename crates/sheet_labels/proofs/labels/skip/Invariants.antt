@@ -1,6 +1,5 @@
-use Rattle.std.proofs.Common.{◌≡◌, sym, ◌∙◌, ◌+◌, ◌-◌, length}
+use Rattle.std.proofs.Common.{◌-◌, length}
 use Rattle.sheet_labels.specs.Labelled.{Search}
-use Rattle.sheet_labels.specs.NameLaws.{search_none, search_part}
 use Rattle.sheet_labels.proofs.labels.skip.Given as goal
 
 abbrev pub invariant-loop-j : goal.invariant-loop-j

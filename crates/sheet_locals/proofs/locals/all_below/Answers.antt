@@ -1,5 +1,4 @@
-use Rattle.std.proofs.Common.{◌≡◌, refl, sym, ◌∙◌, ◌-◌, ltb, take, drop, rules}
-use Rattle.base.specs.Lists.{all}
+use Rattle.std.proofs.Common.{sym, ◌∙◌, rules}
 use Rattle.sheet_locals.specs.LocalLaws.{below_more, below_stop, below_end}
 use Rattle.sheet_locals.proofs.locals.all_below.Goals as goal
 

@@ -1,6 +1,5 @@
-use Rattle.std.proofs.Common.{◌≡◌, refl, sym, ◌∙◌, ◌-◌, ltb, take, drop}
+use Rattle.std.proofs.Common.{◌≡◌, ◌-◌, ltb, take, drop}
 use Rattle.base.specs.Lists.{all}
-use Rattle.sheet_locals.specs.LocalLaws.{below_more, below_stop, below_end}
 use Rattle.sheet_locals.proofs.locals.all_below.Given as goal
 
 abbrev pub invariant-loop-i : goal.invariant-loop-i

@@ -1,10 +1,8 @@
-use Rattle.std.proofs.Common.{◌≡◌, sym, ap, ◌∙◌, ◌+◌, ◌-◌, ◌*◌, ◌≤◌, arith, rules, length}
-use Rattle.base.specs.Sizes.{block_bytes, block_records}
-use Rattle.base.specs.Lists.{first_bad}
-use Rattle.base.specs.SearchLaws.{bad_start, bad_end}
+use Rattle.std.proofs.Common.{sym, ap, ◌∙◌, ◌+◌, ◌*◌, ◌≤◌, arith, rules, length}
+use Rattle.base.specs.Sizes.{block_bytes}
+use Rattle.base.specs.SearchLaws.{bad_end}
 use Rattle.base.specs.Refusals.{found_of}
-use Rattle.stackless_bytecode.specs.Kinds.{at}
-use Rattle.sheet.specs.Layout.{record_blocks, code_of}
+use Rattle.sheet.specs.Layout.{record_blocks}
 use Rattle.sheet.specs.Checks.{locals_ok}
 use Rattle.sheet.specs.Shaped.{code_at, lists_fit}
 use Rattle.sheet.specs.ByBlocks.{few_records, few_left, block_record, pass_block, stop_block}

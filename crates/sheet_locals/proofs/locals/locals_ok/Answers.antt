@@ -1,5 +1,4 @@
-use Rattle.std.proofs.Common.{refl, sym, ap, ◌∙◌, ℕ, ltb, rules}
-use Rattle.std.proofs.lemmas.Bool.{not-true, not-false}
+use Rattle.std.proofs.Common.{refl, sym, ap, ◌∙◌, ℕ, ltb}
 use Rattle.sheet_locals.specs.LocalLaws.{locals_are}
 use Rattle.sheet_locals.proofs.locals.locals_ok.Goals as goal
 

@@ -1,6 +1,5 @@
-use Rattle.std.proofs.Common.{◌≡◌, refl, ◌≤◌, ◌-◌, length}
+use Rattle.std.proofs.Common.{◌≡◌, ◌≤◌, ◌-◌, length}
 use Rattle.base.specs.WriteLaws.{wrote}
-use Rattle.sheet_writer.specs.SheetLaws.{copy_more, copy_all}
 use Rattle.sheet_writer.proofs.whole.copy.Given as goal
 
 abbrev pub invariant-loop-i : goal.invariant-loop-i

@@ -1,5 +1,4 @@
-use Rattle.std.proofs.Common.{◌≡◌, refl, subst, ℕ, ◌-◌, ◌≤◌, length, rules, arith}
-use Rattle.sheet_writer.specs.Written.{Blocks}
+use Rattle.std.proofs.Common.{refl, rules, arith}
 use Rattle.sheet_writer.specs.SheetLaws.{later_by, blocks_none, blocks_more}
 use Rattle.sheet_writer.proofs.whole.put_all_later.Goals as goal
 

@@ -1,6 +1,5 @@
-use Rattle.std.proofs.Common.{◌≡◌, refl, subst, ℕ, ◌-◌, ◌≤◌, length}
+use Rattle.std.proofs.Common.{◌≡◌, ◌-◌, ◌≤◌, length}
 use Rattle.sheet_writer.specs.Written.{Blocks}
-use Rattle.sheet_writer.specs.SheetLaws.{later_by, blocks_none, blocks_more}
 use Rattle.sheet_writer.proofs.whole.put_all_later.Given as goal
 
 abbrev pub invariant-loop-b : goal.invariant-loop-b

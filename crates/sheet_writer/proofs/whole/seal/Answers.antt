@@ -1,4 +1,4 @@
-use Rattle.std.proofs.Common.{ap₂, ℕ, ◌+◌, ◌%◌, rules}
+use Rattle.std.proofs.Common.{ap₂, ℕ, ◌+◌, ◌%◌}
 use Rattle.sheet_writer.specs.SheetLaws.{sealed}
 use Rattle.sheet_writer.proofs.whole.seal.Goals as goal
 

@@ -1,4 +1,4 @@
-use Rattle.std.proofs.Common.{ℕ, ◌*◌, ◌++◌, drop, refl, ap, ◌∙◌, arith, rules}
+use Rattle.std.proofs.Common.{ℕ, ◌*◌, ◌++◌, drop, refl, ap, ◌∙◌, arith}
 use Rattle.sheet.specs.Layout.{heading_rest, record_blocks, block_of}
 use Rattle.base.specs.Bytes.{bytes_of}
 use Rattle.base.specs.Sizes.{block_bytes}

@@ -1,5 +1,4 @@
 use Rattle.sheet_writer.specs.WriterLaws.{record_written}
-use Rattle.std.proofs.Common.{rules}
 use Rattle.sheet_writer.proofs.writer.encode.Goals as goal
 
 pub returns : goal.returns

@@ -1,4 +1,3 @@
-use Rattle.std.proofs.Common.{length-set, arith, rules}
 use Rattle.base.specs.WriteLaws.{fill}
 use Rattle.sheet_writer.specs.Written.{head_of}
 use Rattle.sheet_writer.proofs.writer.put_head.Goals as goal

@@ -1,6 +1,6 @@
-use Rattle.std.proofs.Common.{sym, ◌∙◌, ◌-◌, take_all, rules, zero-add, arith}
+use Rattle.std.proofs.Common.{sym, ◌∙◌, take_all, rules}
 use Rattle.base.specs.Sizes.{list_places}
-use Rattle.base.specs.CopyLaws.{Copied, copied_none, copied_more, copied_all}
+use Rattle.base.specs.CopyLaws.{copied_all}
 use Rattle.sheet_writer.specs.EncodeLaws.{padded_full}
 use Rattle.sheet_writer.proofs.writer.put_places.Goals as goal
 

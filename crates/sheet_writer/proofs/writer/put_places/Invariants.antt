@@ -1,7 +1,6 @@
-use Rattle.std.proofs.Common.{sym, ◌∙◌, ◌-◌, take_all, zero-add}
+use Rattle.std.proofs.Common.{◌-◌}
 use Rattle.base.specs.Sizes.{list_places}
-use Rattle.base.specs.CopyLaws.{Copied, copied_none, copied_more, copied_all}
-use Rattle.sheet_writer.specs.EncodeLaws.{padded_full}
+use Rattle.base.specs.CopyLaws.{Copied}
 use Rattle.sheet_writer.proofs.writer.put_places.Given as goal
 
 abbrev pub invariant-loop-i : goal.invariant-loop-i

@@ -1,6 +1,5 @@
 use Rattle.base.specs.Bytes.{bytes_of}
 use Rattle.base.specs.WriteLaws.{fill}
-use Rattle.std.proofs.Common.{rules}
 use Rattle.sheet_writer.proofs.writer.put_u16.Goals as goal
 
 pub returns : goal.returns

@@ -1,5 +1,5 @@
 use Rattle.std.proofs.Math.Bool.{not-not}
-use Rattle.std.proofs.Common.{rules, ne_eqb}
+use Rattle.std.proofs.Common.{ne_eqb}
 use Rattle.stackless_bytecode.specs.Kinds.{is_branch, falls_through, is_exit, is_flagged}
 use Rattle.stackless_bytecode.proofs.Bytecode.is_branch.Goals as goal
 

@@ -1,4 +1,4 @@
-use Rattle.std.proofs.Common.{◌≡◌, ◌∙◌, arith, rules, ne_eqb}
+use Rattle.std.proofs.Common.{◌≡◌, ◌∙◌, arith, ne_eqb}
 use Rattle.stackless_bytecode.specs.Kinds.{branch_dests, is_flagged}
 use Rattle.stackless_bytecode.proofs.Bytecode.name.Goals as goal
 

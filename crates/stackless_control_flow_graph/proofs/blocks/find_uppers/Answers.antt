@@ -1,7 +1,5 @@
-use Rattle.stackless_control_flow_graph.specs.OffsetLaws.{Upping, Between, between, uppers_begin, uppers_turn, uppers_end}
-use Rattle.stackless_control_flow_graph.specs.Arrays.{Marked}
-use Rattle.stackless_bytecode.specs.declared.Bytecode.{Bytecode}
-use Rattle.std.proofs.Common.{length, length-set, get_or, ◌≤◌, ◌-◌, List, ◌≡◌, refl, rules, arith}
+use Rattle.stackless_control_flow_graph.specs.OffsetLaws.{between, uppers_begin, uppers_turn}
+use Rattle.std.proofs.Common.{length-set, get_or, ◌-◌, refl, rules, arith}
 use Rattle.stackless_control_flow_graph.proofs.blocks.find_uppers.Goals as goal
 
 pub loop-k-init : goal.loop-k-init

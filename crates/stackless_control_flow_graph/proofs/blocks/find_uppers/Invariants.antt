@@ -1,7 +1,7 @@
-use Rattle.stackless_control_flow_graph.specs.OffsetLaws.{Upping, Between, between, uppers_begin, uppers_turn, uppers_end}
+use Rattle.stackless_control_flow_graph.specs.OffsetLaws.{Upping, Between}
 use Rattle.stackless_control_flow_graph.specs.Arrays.{Marked}
 use Rattle.stackless_bytecode.specs.declared.Bytecode.{Bytecode}
-use Rattle.std.proofs.Common.{length, length-set, get_or, ◌≤◌, ◌-◌, List, ◌≡◌, refl}
+use Rattle.std.proofs.Common.{length, ◌≤◌, List, ◌≡◌}
 use Rattle.stackless_control_flow_graph.proofs.blocks.find_uppers.Given as goal
 
 abbrev pub invariant-loop-k : goal.invariant-loop-k

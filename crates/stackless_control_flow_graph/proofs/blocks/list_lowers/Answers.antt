@@ -1,6 +1,5 @@
 use Rattle.stackless_control_flow_graph.specs.OffsetLaws.{marked_none, marked_more, listing_most}
-use Rattle.stackless_control_flow_graph.specs.Arrays.{marked_in}
-use Rattle.std.proofs.Common.{length-take-le, length, take, ◌≤◌, ◌-◌, ◌≡◌, refl, sym, ap, ◌∙◌, rules, arith}
+use Rattle.std.proofs.Common.{refl, ◌∙◌, rules, arith}
 use Rattle.stackless_control_flow_graph.proofs.blocks.list_lowers.Goals as goal
 
 pub loop-k-init : goal.loop-k-init

@@ -1,6 +1,5 @@
-use Rattle.stackless_control_flow_graph.specs.OffsetLaws.{marked_none, marked_more, listing_most}
 use Rattle.stackless_control_flow_graph.specs.Arrays.{marked_in}
-use Rattle.std.proofs.Common.{length-take-le, length, take, ◌≤◌, ◌-◌, ◌≡◌, refl, sym, ap, ◌∙◌}
+use Rattle.std.proofs.Common.{length, take, ◌≤◌, ◌-◌, ◌≡◌}
 use Rattle.stackless_control_flow_graph.proofs.blocks.list_lowers.Given as goal
 
 abbrev pub invariant-loop-k : goal.invariant-loop-k

@@ -1,4 +1,4 @@
-use Rattle.std.proofs.Common.{arith, rules}
+use Rattle.std.proofs.Common.{arith}
 use Rattle.stackless_control_flow_graph.specs.GraphTableLaws.{found_ready, all_numbered}
 use Rattle.stackless_control_flow_graph.proofs.keys.find_keys.Goals as goal
 

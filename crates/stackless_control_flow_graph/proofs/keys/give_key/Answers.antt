@@ -1,5 +1,4 @@
 use Rattle.stackless_control_flow_graph.specs.KeyLaws.{give_none, give_some}
-use Rattle.std.proofs.Common.{arith, rules}
 use Rattle.stackless_control_flow_graph.proofs.keys.give_key.Goals as goal
 
 pub returns-then-o-eq-NO_SUCCESSOR : goal.returns-then-o-eq-NO_SUCCESSOR

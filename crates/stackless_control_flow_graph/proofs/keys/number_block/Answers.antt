@@ -1,4 +1,4 @@
-use Rattle.std.proofs.Common.{◌∙◌, arith, rules}
+use Rattle.std.proofs.Common.{arith}
 use Rattle.stackless_control_flow_graph.specs.KeyLaws.{gives_block}
 use Rattle.stackless_control_flow_graph.proofs.keys.number_block.Goals as goal
 

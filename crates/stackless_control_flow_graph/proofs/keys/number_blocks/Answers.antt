@@ -1,8 +1,5 @@
-use Rattle.std.proofs.Common.{◌≡◌, refl, ◌∙◌, ◌≤◌, ◌-◌, length, take, rules, arith}
-use Rattle.base.specs.Numbering.{Gives}
-use Rattle.base.specs.Lists.{gather}
-use Rattle.stackless_control_flow_graph.specs.KeyLaws.{keys_begin, keys_more, block_lower, block_near}
-use Rattle.stackless_control_flow_graph.specs.Arrays.{first_key, takers}
+use Rattle.std.proofs.Common.{refl, ◌∙◌, rules, arith}
+use Rattle.stackless_control_flow_graph.specs.KeyLaws.{keys_begin, keys_more}
 use Rattle.stackless_control_flow_graph.proofs.keys.number_blocks.Goals as goal
 
 pub loop-b-init : goal.loop-b-init

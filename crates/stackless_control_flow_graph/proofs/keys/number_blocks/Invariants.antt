@@ -1,7 +1,6 @@
-use Rattle.std.proofs.Common.{◌≡◌, refl, ◌∙◌, ◌≤◌, ◌-◌, length, take}
+use Rattle.std.proofs.Common.{◌≡◌, ◌≤◌, ◌-◌, length, take}
 use Rattle.base.specs.Numbering.{Gives}
 use Rattle.base.specs.Lists.{gather}
-use Rattle.stackless_control_flow_graph.specs.KeyLaws.{keys_begin, keys_more, block_lower, block_near}
 use Rattle.stackless_control_flow_graph.specs.Arrays.{first_key, takers}
 use Rattle.stackless_control_flow_graph.proofs.keys.number_blocks.Given as goal
 

@@ -1,11 +1,6 @@
-use Rattle.std.proofs.Common.{◌≡◌, refl, List, ℕ, ◌-◌, ◌≤◌, ◌<◌, get_or, length, length-set, rules, arith}
-use Rattle.stackless_bytecode.specs.declared.Bytecode.{Bytecode}
-use Rattle.stackless_bytecode.specs.Sound.{Sound}
-use Rattle.stackless_control_flow_graph.specs.Blocks.{keyed}
-use Rattle.stackless_control_flow_graph.specs.Arrays.{key_in}
-use Rattle.stackless_control_flow_graph.specs.SpreadLaws.{Spreading, spread_begin, spread_more}
+use Rattle.std.proofs.Common.{length-set, arith}
+use Rattle.stackless_control_flow_graph.specs.SpreadLaws.{spread_more}
 use Rattle.stackless_control_flow_graph.proofs.keys.spread_keys.Goals as goal
-use Rattle.stackless_control_flow_graph.proofs.keys.spread_keys.Invariants.{SpreadTo}
 
 pub loop-k-preserved : goal.loop-k-preserved
 loop-k-preserved c =

@@ -1,9 +1,9 @@
-use Rattle.std.proofs.Common.{◌≡◌, refl, List, ℕ, ◌-◌, ◌≤◌, ◌<◌, get_or, length, length-set}
+use Rattle.std.proofs.Common.{◌≡◌, List, ℕ, ◌-◌, ◌≤◌, ◌<◌, get_or, length}
 use Rattle.stackless_bytecode.specs.declared.Bytecode.{Bytecode}
 use Rattle.stackless_bytecode.specs.Sound.{Sound}
 use Rattle.stackless_control_flow_graph.specs.Blocks.{keyed}
 use Rattle.stackless_control_flow_graph.specs.Arrays.{key_in}
-use Rattle.stackless_control_flow_graph.specs.SpreadLaws.{Spreading, spread_begin, spread_more}
+use Rattle.stackless_control_flow_graph.specs.SpreadLaws.{Spreading}
 use Rattle.stackless_control_flow_graph.proofs.keys.spread_keys.Given as goal
 
 pub record SpreadTo (n : ℕ) (keys₀ keys : List ℕ) (last k : ℕ) : Type 0 where

@@ -1,4 +1,4 @@
-use Rattle.std.proofs.Common.{length-set, refl, arith, rules}
+use Rattle.std.proofs.Common.{length-set, refl, arith}
 use mathlib.Core.List.Memᴰ
 use Rattle.stackless_control_flow_graph.specs.StartLaws.{first_in, second_in, mark_none, mark_one, mark_two}
 use Rattle.stackless_control_flow_graph.proofs.starts.mark_starts.Goals as goal

@@ -1,12 +1,7 @@
 use mathlib.Core.List.Memᴰ
-use Rattle.std.proofs.Common.{⊎_elim, ◌≡◌, sym, ◌∙◌, arith, rules}
-use Rattle.sheet.specs.Layout.{code_of}
-use Rattle.stackless_bytecode.specs.Successors.{successors}
-use Rattle.stackless_control_flow_graph.specs.Arrays.{offsets_of, put_two, Visits}
-use Rattle.stackless_bytecode.specs.SlotLaws.{LabelsBelow}
+use Rattle.std.proofs.Common.{⊎_elim, sym, ◌∙◌, arith, rules}
 use Rattle.sheet.specs.Shaped.{record_inside}
 use Rattle.stackless_control_flow_graph.specs.CheckedSheetLaws.{checked_shaped, next_stop, next_is, next_on, next_within, visit_quiet, visit_branch}
-use Rattle.std.proofs.lemmas.Bool.{not-true, not-false}
 use Rattle.stackless_control_flow_graph.proofs.starts.visit.Goals as goal
 
 pub instruction_at-r-requires : goal.instruction_at-r-requires

@@ -1,8 +1,6 @@
-use Rattle.std.proofs.Common.{◌≡◌, refl, ◌∙◌, ◌≤◌, ◌-◌, length, length-set, rules, arith}
-use Rattle.sheet.specs.Layout.{code_of}
+use Rattle.std.proofs.Common.{◌≡◌, refl, rules, arith}
 use Rattle.stackless_control_flow_graph.specs.CheckedSheetLaws.{checked_once, checked_size, marks_begin}
 use Rattle.stackless_control_flow_graph.specs.StartLaws.{marks_end}
-use Rattle.stackless_control_flow_graph.specs.Arrays.{SuccessorsTo, Marking}
 use Rattle.stackless_control_flow_graph.proofs.starts.visit_all.Goals as goal
 
 pub loop-k-init : goal.loop-k-init

@@ -1,7 +1,5 @@
-use Rattle.std.proofs.Common.{◌≡◌, refl, ◌∙◌, ◌≤◌, ◌-◌, length, length-set}
+use Rattle.std.proofs.Common.{◌≡◌, ◌≤◌, ◌-◌, length}
 use Rattle.sheet.specs.Layout.{code_of}
-use Rattle.stackless_control_flow_graph.specs.CheckedSheetLaws.{checked_once, checked_size, marks_begin}
-use Rattle.stackless_control_flow_graph.specs.StartLaws.{marks_end}
 use Rattle.stackless_control_flow_graph.specs.Arrays.{SuccessorsTo, Marking}
 use Rattle.stackless_control_flow_graph.proofs.starts.visit_all.Given as goal
 

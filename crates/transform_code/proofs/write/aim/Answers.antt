@@ -1,5 +1,4 @@
-use Rattle.std.proofs.Common.{◌∙◌, arith, rules}
-use Rattle.livevar_transform.specs.NumberLaws.{wide_below, label_one, label_two}
+use Rattle.std.proofs.Common.{◌∙◌}
 use Rattle.livevar_transform.specs.NewCodeLaws.{aimed_by}
 use Rattle.transform_code.proofs.write.aim.Goals as goal
 

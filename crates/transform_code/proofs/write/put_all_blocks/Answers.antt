@@ -1,13 +1,11 @@
-use Rattle.std.proofs.Common.{◌≡◌, refl, ap, ℕ, ◌*◌, ◌-◌, ◌≤◌, length, rules, arith}
+use Rattle.std.proofs.Common.{refl, ap, ℕ, ◌*◌, ◌-◌, rules, arith}
 use Rattle.base.specs.Sizes.{record_bytes}
-use Rattle.base.specs.Lists.{joins}
 use Rattle.sheet.specs.Layout.{code_of}
-use Rattle.sheet_writer.specs.Written.{placed}
 use Rattle.sheet_writer.specs.RecordsLaws.{tail_room}
 use Rattle.livevar_transform.specs.Rewrite.{block_size}
-use Rattle.livevar_transform.specs.Plan.{lost_at, numbers_at, added_by}
+use Rattle.livevar_transform.specs.Plan.{lost_at}
 use Rattle.livevar_transform.specs.NumberLaws.{numbers_first, numbers_small, numbers_next, written_is, block_inside, block_fits}
-use Rattle.livevar_transform.specs.NewCodeLaws.{pieces_none, added_pieces, pieces_end}
+use Rattle.livevar_transform.specs.NewCodeLaws.{pieces_none, added_pieces}
 use Rattle.transform_code.proofs.write.put_all_blocks.Goals as goal
 
 pub loop-e-init : goal.loop-e-init

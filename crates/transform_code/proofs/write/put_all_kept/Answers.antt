@@ -1,12 +1,8 @@
-use Rattle.std.proofs.Common.{◌≡◌, refl, ap, ℕ, ◌*◌, ◌-◌, ◌≤◌, length, length-drop, rules, arith}
+use Rattle.std.proofs.Common.{refl, ap, ℕ, ◌*◌, length-drop, rules, arith}
 use Rattle.base.specs.Sizes.{record_bytes}
-use Rattle.base.specs.Lists.{joins}
-use Rattle.sheet.specs.Layout.{code_of}
-use Rattle.sheet_writer.specs.Written.{placed}
 use Rattle.sheet_writer.specs.RecordsLaws.{tail_is}
-use Rattle.livevar_transform.specs.Plan.{numbers_at, kept_by}
 use Rattle.livevar_transform.specs.NumberLaws.{numbers_first, numbers_small, numbers_both, labels_fit}
-use Rattle.livevar_transform.specs.NewCodeLaws.{joins_none, pieces_none, kept_pieces, kept_long, pieces_end}
+use Rattle.livevar_transform.specs.NewCodeLaws.{joins_none, pieces_none, kept_pieces, kept_long}
 use Rattle.transform_code.proofs.write.put_all_kept.Goals as goal
 
 pub loop-k-init : goal.loop-k-init

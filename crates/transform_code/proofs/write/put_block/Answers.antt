@@ -1,4 +1,4 @@
-use Rattle.std.proofs.Common.{refl, ap, ap₂, ◌∙◌, ℕ, [], rules}
+use Rattle.std.proofs.Common.{refl, ap, ap₂, ◌∙◌, ℕ, []}
 use Rattle.sheet.specs.Layout.{encode}
 use Rattle.stackless_bytecode.specs.Kinds.{Label, Jump}
 use Rattle.livevar_transform.specs.Rewrite.{made}

@@ -1,15 +1,13 @@
 use Rattle.stackless_bytecode.specs.Kinds.{Call, Destroy}
-use Rattle.std.proofs.Common.{[], ◌∷◌, ◌≡◌, refl, sym, ap, ◌∙◌, eqb-true, ℕ, length, rules, arith}
+use Rattle.std.proofs.Common.{[], ◌∷◌, refl, sym, ap, ◌∙◌, eqb-true, ℕ, rules, arith}
 use Rattle.sheet.specs.Layout.{encode}
 use Rattle.livevar_transform.specs.Rewrite.{made}
-use Rattle.std.proofs.lemmas.Bool.{eqb-false, not-true, not-false}
+use Rattle.std.proofs.lemmas.Bool.{eqb-false}
 use Rattle.dataflow_domains.specs.SetLaws.{array, mask_small}
 use Rattle.base.specs.Sizes.{max_locals}
-use Rattle.dataflow_domains.specs.Sets.{mask}
-use Rattle.dataflow_domains.specs.Members.{members}
 use Rattle.dataflow_domains.specs.MemberLaws.{members_length, walk_falls}
 use Rattle.dataflow_domains.specs.MaskLaws.{ones_bound}
-use Rattle.livevar_transform.specs.NewCodeLaws.{DestroysPut, walk_none, walk_lt, walk_next, walk_done}
+use Rattle.livevar_transform.specs.NewCodeLaws.{walk_none, walk_lt, walk_next, walk_done}
 use Rattle.transform_code.proofs.write.put_destroys.Goals as goal
 
 pub loop-left-init : goal.loop-left-init

@@ -1,7 +1,7 @@
 use Rattle.std.proofs.Common.{sym, ◌∙◌, eqb-true, rules}
 use Rattle.std.proofs.lemmas.Bool.{eqb-false}
 use Rattle.dataflow_domains.specs.SetLaws.{array, mask_small}
-use Rattle.livevar_transform.specs.NumberLaws.{wide_below, past_as, block_room}
+use Rattle.livevar_transform.specs.NumberLaws.{past_as, block_room}
 use Rattle.livevar_transform.specs.NewCodeLaws.{block_on_lem, block_none}
 use Rattle.transform_code.proofs.write.put_edge.Goals as goal
 

@@ -1,4 +1,4 @@
-use Rattle.std.proofs.Common.{sym, ap, ◌∙◌, List, length, arith, rules}
+use Rattle.std.proofs.Common.{sym, ap, ◌∙◌, List, length, rules}
 use Rattle.sheet_writer.specs.Written.{placed}
 use Rattle.sheet_writer.specs.RecordsLaws.{placed_one, placed_none}
 use Rattle.stackless_bytecode.specs.declared.Bytecode.{Bytecode}

@@ -1,4 +1,4 @@
-use Rattle.std.proofs.Common.{sym, ◌∙◌, arith, rules}
+use Rattle.std.proofs.Common.{sym, ◌∙◌, arith}
 use Rattle.livevar_analysis.specs.InputLaws.{code_at, record_inside}
 use Rattle.livevar_transform.specs.NewCodeLaws.{stands_branch, stands_merged, stands_plain}
 use Rattle.transform_code.proofs.write.stands_for.Goals as goal

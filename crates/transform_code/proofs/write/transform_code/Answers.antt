@@ -1,10 +1,5 @@
-use Rattle.std.proofs.Common.{ap, ℕ, ◌*◌, length, rules, arith}
+use Rattle.std.proofs.Common.{ap, ℕ, ◌*◌}
 use Rattle.base.specs.Sizes.{record_bytes}
-use Rattle.base.specs.Lists.{joins}
-use Rattle.sheet.specs.Layout.{code_of}
-use Rattle.sheet_writer.specs.RecordsLaws.{tail_room}
-use Rattle.livevar_transform.specs.Plan.{added_by}
-use Rattle.livevar_transform.specs.NumberLaws.{code_parts}
 use Rattle.livevar_transform.specs.NewCodeLaws.{all_written}
 use Rattle.transform_code.proofs.write.transform_code.Goals as goal
 
