@@ -7,12 +7,12 @@
 --   lowers        block, by offset                    its lower
 --   uppers        offset                              the upper of its block
 --   keys          offset                              the key of the block that starts there, 0 where none does
---   lowerOfKey    key, less 2                         the lower of its block
---   upperOfKey    key, less 2                         the upper of its block (Graph)
---   keyOfOffset   offset                              the key of its block (Graph)
+--   lower_of_key  key, less 2                         the lower of its block
+--   upper_of_key  key, less 2                         the upper of its block (Graph)
+--   key_of_offset offset                              the key of its block (Graph)
 --   slots         key, two places each                the keys of its successors (Sorting)
---   firstEdge     key                                 where its part of edges starts; the next key's start ends it (Sorting)
---   edges         firstEdge                           what the key leads to backward (Sorting)
+--   first_edge    key                                 where its part of edges starts; the next key's start ends it (Sorting)
+--   edges         first_edge                          what the key leads to backward (Sorting)
 --   table         block by offset, six places each    its row of the flow table
 use Rattle.std.specs.Prelude.{◌≡◌, true, cond, ℕ, suc, ◌+◌, ◌*◌, ◌≤◌, ◌<◌, eqb, get_or, set, length, take, List, [], ◌∷◌, ◌++◌, map}
 use mathlib.Core.List.{Memᴰ}
@@ -136,8 +136,8 @@ pub record BlockAt (ls uppers : List ℕ) (b l u : ℕ) : Type 0 where
   pub upper : u ≡ get_or uppers (get_or ls b 0) 0
 
 -- the keys of all r blocks: the lowers in the order of their keys, and the key of each; nothing else has one
-pub record Numbered (code : List Bytecode) (keys lowerOfKey : List ℕ) (r : ℕ) : Type 0 where
-  pub front : take r lowerOfKey ≡ keyed code
+pub record Numbered (code : List Bytecode) (keys lower_of_key : List ℕ) (r : ℕ) : Type 0 where
+  pub front : take r lower_of_key ≡ keyed code
   pub count : r ≡ blocks_of code
   pub each : (o : ℕ) → o < length keys → get_or keys o 0 ≡ key_in (keyed code) o
 

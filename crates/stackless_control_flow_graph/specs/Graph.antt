@@ -6,35 +6,35 @@ use Rattle.stackless_control_flow_graph.specs.Blocks.{lower_of, upper_of, keyed,
 use Rattle.stackless_control_flow_graph.specs.Sorting.{max_slots, Leads}
 
 -- the arrays have room for the blocks of any sheet, and are blank where they are counted in
-pub record GraphRoom (lowerOfKey upperOfKey keyOfOffset firstEdge edges : List ℕ) : Type 0 where
-  pub lowers_long : max_instructions ≤ length lowerOfKey
-  pub uppers_long : max_instructions ≤ length upperOfKey
-  pub keys_long : length keyOfOffset ≡ max_instructions
-  pub keys_blank : (o : ℕ) → get_or keyOfOffset o 0 ≡ 0
-  pub firsts_long : max_instructions + 5 ≤ length firstEdge
-  pub firsts_blank : (v : ℕ) → get_or firstEdge v 0 ≡ 0
+pub record GraphRoom (lower_of_key upper_of_key key_of_offset first_edge edges : List ℕ) : Type 0 where
+  pub lowers_long : max_instructions ≤ length lower_of_key
+  pub uppers_long : max_instructions ≤ length upper_of_key
+  pub keys_long : length key_of_offset ≡ max_instructions
+  pub keys_blank : (o : ℕ) → get_or key_of_offset o 0 ≡ 0
+  pub firsts_long : max_instructions + 5 ≤ length first_edge
+  pub firsts_blank : (v : ℕ) → get_or first_edge v 0 ≡ 0
   pub edges_long : max_slots ≤ length edges
 
 -- the lower and the upper of each block, by key
-pub record Bounds (code : List Bytecode) (lowerOfKey upperOfKey : List ℕ) : Type 0 where
-  pub lows_long : length (keyed code) ≤ length lowerOfKey
-  pub ups_long : length (keyed code) ≤ length upperOfKey
-  pub low : (i : ℕ) → i < length (keyed code) → get_or lowerOfKey i 0 ≡ get_or (keyed code) i 0
-  pub up : (i : ℕ) → i < length (keyed code) → get_or upperOfKey i 0 ≡ upper_of code (get_or (keyed code) i 0)
+pub record Bounds (code : List Bytecode) (lower_of_key upper_of_key : List ℕ) : Type 0 where
+  pub lows_long : length (keyed code) ≤ length lower_of_key
+  pub ups_long : length (keyed code) ≤ length upper_of_key
+  pub low : (i : ℕ) → i < length (keyed code) → get_or lower_of_key i 0 ≡ get_or (keyed code) i 0
+  pub up : (i : ℕ) → i < length (keyed code) → get_or upper_of_key i 0 ≡ upper_of code (get_or (keyed code) i 0)
 
 -- the key of the block of each offset
-pub record OffsetKeys (code : List Bytecode) (keyOfOffset : List ℕ) : Type 0 where
-  pub long : length code ≤ length keyOfOffset
-  pub each : (k : ℕ) → k < length code → get_or keyOfOffset k 0 ≡ key_of (keyed code) (lower_of code k)
+pub record OffsetKeys (code : List Bytecode) (key_of_offset : List ℕ) : Type 0 where
+  pub long : length code ≤ length key_of_offset
+  pub each : (k : ℕ) → k < length code → get_or key_of_offset k 0 ≡ key_of (keyed code) (lower_of code k)
 
 -- what each key leads to
-pub record Edges (code : List Bytecode) (firstEdge edges : List ℕ) : Type 0 where
-  pub leads : Leads code (length (keyed code)) firstEdge edges
-  pub long : length (keyed code) + 3 ≤ length firstEdge
+pub record Edges (code : List Bytecode) (first_edge edges : List ℕ) : Type 0 where
+  pub leads : Leads code (length (keyed code)) first_edge edges
+  pub long : length (keyed code) + 3 ≤ length first_edge
 
 -- all of m blocks
-pub record GraphTables (code : List Bytecode) (m : ℕ) (lowerOfKey upperOfKey keyOfOffset firstEdge edges : List ℕ) : Type 0 where
+pub record GraphTables (code : List Bytecode) (m : ℕ) (lower_of_key upper_of_key key_of_offset first_edge edges : List ℕ) : Type 0 where
   pub count : m ≡ length (keyed code)
-  pub bounds : Bounds code lowerOfKey upperOfKey
-  pub keys : OffsetKeys code keyOfOffset
-  pub leads : Edges code firstEdge edges
+  pub bounds : Bounds code lower_of_key upper_of_key
+  pub keys : OffsetKeys code key_of_offset
+  pub leads : Edges code first_edge edges
