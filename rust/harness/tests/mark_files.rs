@@ -1,47 +1,19 @@
 //! Many answers at once: files and folders, CSV, the same output on any number of threads, files that cannot be read.
 use sorzibelu::mark::{run, Options, Question, Status};
 use std::{
-    env, fs,
+    fs,
     io::{self, Write},
-    ops::Deref,
-    path::{Path, PathBuf},
-    process,
+    path::Path,
 };
+
+#[path = "../../sorzibelu/tests/common/folder.rs"]
+mod folder;
+use folder::folder;
 
 const RIGHT: &str = "0 0000000000000003 0000000000000003\n1 0000000000000003 0000000000000003\n2 0000000000000002 0000000000000002\n3 0000000000000002 0000000000000000\ntaken 7\n";
 
 fn m2() -> Question {
     Question::of_file(&fs::read(concat!(env!("CARGO_MANIFEST_DIR"), "/../../sheets/m2.sheet")).unwrap()).unwrap()
-}
-
-/// An empty folder of a test's own, which goes with it. It lies outside the checkout, where the gate takes no link and no second crates.txt.
-struct Folder(PathBuf);
-
-fn folder(name: &str) -> Folder {
-    let dir = env::temp_dir().join(format!("sorzibelu-mark-{name}-{}", process::id()));
-    let _ = fs::remove_dir_all(&dir);
-    fs::create_dir_all(&dir).unwrap();
-    Folder(dir)
-}
-
-impl Deref for Folder {
-    type Target = Path;
-
-    fn deref(&self) -> &Path {
-        &self.0
-    }
-}
-
-impl AsRef<Path> for Folder {
-    fn as_ref(&self) -> &Path {
-        self
-    }
-}
-
-impl Drop for Folder {
-    fn drop(&mut self) {
-        let _ = fs::remove_dir_all(&self.0);
-    }
 }
 
 /// Status, what goes out, errors, and how often progress was told.

@@ -1,11 +1,14 @@
 //! The command as a house runs it.
 #![allow(dead_code)]
+mod folder;
+
+#[allow(unused_imports)] // some tests name the type
+pub use folder::{Folder, folder};
 use std::{
-    env, fs,
+    fs,
     io::Write,
-    ops::Deref,
     path::{Path, PathBuf},
-    process::{self, Command, Stdio},
+    process::{Command, Stdio},
     thread,
 };
 
@@ -18,37 +21,7 @@ pub fn stored(name: &str) -> String {
     root().join("sheets").join(name).display().to_string()
 }
 
-/// An empty folder of a test's own, which goes with it. It lies outside the checkout, where the gate takes no link and no second crates.txt.
-pub struct Folder(PathBuf);
-
-pub fn folder(name: &str) -> Folder {
-    let dir = env::temp_dir().join(format!("sorzibelu-{name}-{}", process::id()));
-    let _ = fs::remove_dir_all(&dir);
-    fs::create_dir_all(&dir).unwrap();
-    Folder(dir)
-}
-
-impl Deref for Folder {
-    type Target = Path;
-
-    fn deref(&self) -> &Path {
-        &self.0
-    }
-}
-
-impl AsRef<Path> for Folder {
-    fn as_ref(&self) -> &Path {
-        self
-    }
-}
-
-impl Drop for Folder {
-    fn drop(&mut self) {
-        let _ = fs::remove_dir_all(&self.0);
-    }
-}
-
-/// A file in it.
+/// A file in a folder.
 pub fn file(dir: &Path, name: &str, content: impl AsRef<[u8]>) -> String {
     let path = dir.join(name);
     fs::write(&path, content).unwrap();
