@@ -2,7 +2,7 @@
 use Rattle.std.proofs.Common.{◌≡◌, refl, sym, ap, ◌∙◌, subst, ⊎_elim, take-suc, Bool, true, false, ◌||◌, eqb, take, cond, List, [], ◌∷◌, ◌++◌, ℕ, zero, suc, ◌+◌, ◌-◌, ◌*◌, ◌^◌, ◌≤◌, ◌<◌, arith, eqb-true, length, length-append, length-take-le}
 use Rattle.std.proofs.Math.Bool.{or-true as any-or-true}
 use mathlib.Core.List.{Memᴰ}
-use Rattle.std.proofs.Math.Option.{Option, none, some, some-injective}
+use Rattle.std.specs.Prelude.{Option, None, Some}
 use Rattle.std.proofs.lemmas.Bool.{eqb-false}
 use Rattle.std.specs.Int.Count.{ones}
 use Rattle.std.proofs.Math.Seq.{take-length}
@@ -25,13 +25,13 @@ pub record FirstNew (m used : ℕ) (ps : List ℕ) (p : ℕ) : Type 0 where
   pub among : Memᴰ p ps
   pub new : passed_over m used p ≡ false
 
-pub first_new_lem : (m used : ℕ) (ps : List ℕ) {p : ℕ} → first_new m used ps ≡ some p → FirstNew m used ps p
+pub first_new_lem : (m used : ℕ) (ps : List ℕ) {p : ℕ} → first_new m used ps ≡ Some p → FirstNew m used ps p
 unfolding first_new
 first_new_lem m used [] {p} e = absurd (let z : ◌≡◌ {A = ℕ} 0 1 = cc in omega arith)
 first_new_lem m used (q ∷ qs) {p} e =
-    by_test (λ b. cond b (first_new m used qs) (some q) ≡ some p → FirstNew m used (q ∷ qs) p) (passed_over m used q)
+    by_test (λ b. cond b (first_new m used qs) (Some q) ≡ Some p → FirstNew m used (q ∷ qs) p) (passed_over m used q)
     (λ t s. let r = first_new_lem m used qs s in record { among = Memᴰ.tail r.among; new = r.new })
-    (λ f s. record { among = Memᴰ.head (sym (some-injective _ _ s)); new = ap (passed_over m used) (sym (some-injective _ _ s)) ∙ f }) e
+    (λ f s. let same : p ≡ q = cc in record { among = Memᴰ.head same; new = ap (passed_over m used) same ∙ f }) e
 
 -- ---- passed over: listed, or in `used`
 
@@ -86,22 +86,22 @@ module _ (c : ℕ) (w : WalkState) (fits : StateBelow c w) where
 
 module _ (ts : List Triple) (used : ℕ) (w : WalkState) where
   -- no parent of the end is new
-  pub step_off : first_new w.visited.mask used (get_parents ts (end_of w)) ≡ none → one_step ts used w ≡ take_off w
+  pub step_off : first_new w.visited.mask used (get_parents ts (end_of w)) ≡ None → one_step ts used w ≡ take_off w
   unfolding one_step
   step_off e = rw (e, one_step)
 
   -- p is the first that is
-  pub step_on : (p : ℕ) → first_new w.visited.mask used (get_parents ts (end_of w)) ≡ some p → one_step ts used w ≡ put w p
+  pub step_on : (p : ℕ) → first_new w.visited.mask used (get_parents ts (end_of w)) ≡ Some p → one_step ts used w ≡ put w p
   unfolding one_step
   step_on p e = rw (e, one_step)
 
-  pub by_step : (P : WalkState → Type 0) → (first_new w.visited.mask used (get_parents ts (end_of w)) ≡ none → P (take_off w))
-      → ((p : ℕ) → first_new w.visited.mask used (get_parents ts (end_of w)) ≡ some p → P (put w p)) → P (one_step ts used w)
+  pub by_step : (P : WalkState → Type 0) → (first_new w.visited.mask used (get_parents ts (end_of w)) ≡ None → P (take_off w))
+      → ((p : ℕ) → first_new w.visited.mask used (get_parents ts (end_of w)) ≡ Some p → P (put w p)) → P (one_step ts used w)
   by_step P off on = go (first_new w.visited.mask used (get_parents ts (end_of w))) refl
     where
       go : (o : Option ℕ) → first_new w.visited.mask used (get_parents ts (end_of w)) ≡ o → P (one_step ts used w)
-      go none e = subst P (sym (step_off e)) (off e)
-      go (some p) e = subst P (sym (step_on p e)) (on p e)
+      go None e = subst P (sym (step_off e)) (off e)
+      go (Some p) e = subst P (sym (step_on p e)) (on p e)
 
 module _ (ts : List Triple) (used c : ℕ) (inside : (t : Triple) → Memᴰ t ts → t.parent < c) where
   abbrev visit : VisitedNodes → ℕ → VisitedNodes
@@ -133,25 +133,25 @@ module _ (ts : List Triple) (used c : ℕ) (inside : (t : Triple) → Memᴰ t t
       ((collect_visits ts used c inside c st n h w (omega arith)).settled n (Memᴰ.head refl)).either
 
   -- where none is new, none is visited
-  visit_none : (st : VisitedNodes) (ps : List ℕ) → first_new st.mask used ps ≡ none → over visit st ps ≡ st
-  unfolding first_new over
+  visit_none : (st : VisitedNodes) (ps : List ℕ) → first_new st.mask used ps ≡ None → over visit st ps ≡ st
+  unfolding first_new
   visit_none st [] e = refl
   visit_none st (q ∷ qs) e =
-      by_test (λ b. cond b (first_new st.mask used qs) (some q) ≡ none → over visit (visit st q) qs ≡ st) (passed_over st.mask used q)
+      by_test (λ b. cond b (first_new st.mask used qs) (Some q) ≡ None → over visit (visit st q) qs ≡ st) (passed_over st.mask used q)
       (λ t s. ap (λ (v : VisitedNodes). over visit v qs) (visit_passed st q t) ∙ visit_none st qs s)
       (λ f s. absurd (let z : ◌≡◌ {A = ℕ} 0 1 = cc in omega arith)) e
 
   -- the first new one may be visited ahead of all
-  visit_first : (st : VisitedNodes) (ps : List ℕ) (p : ℕ) → p < c → ListedBelow c st → first_new st.mask used ps ≡ some p → over visit st ps ≡ over visit (visit st p) ps
-  unfolding first_new over
+  visit_first : (st : VisitedNodes) (ps : List ℕ) (p : ℕ) → p < c → ListedBelow c st → first_new st.mask used ps ≡ Some p → over visit st ps ≡ over visit (visit st p) ps
+  unfolding first_new
   visit_first st [] p h w e = absurd (let z : ◌≡◌ {A = ℕ} 0 1 = cc in omega arith)
   visit_first st (q ∷ qs) p h w e =
-      by_test (λ b. cond b (first_new st.mask used qs) (some q) ≡ some p → over visit (visit st q) qs ≡ over visit (visit (visit st p) q) qs)
+      by_test (λ b. cond b (first_new st.mask used qs) (Some q) ≡ Some p → over visit (visit st q) qs ≡ over visit (visit (visit st p) q) qs)
       (passed_over st.mask used q)
       (λ t s. ap (λ (v : VisitedNodes). over visit v qs) (visit_passed st q t) ∙ visit_first st qs p h w s
       ∙ ap (λ (v : VisitedNodes). over visit v qs) (sym (visit_passed (visit st p) q (passed_more used q (collect_grows ts used c inside c st p h w).has t))))
-      (λ f s. ap (λ (v : VisitedNodes). over visit v qs)
-      (ap (visit st) (some-injective _ _ s) ∙ sym (visit_passed (visit st p) q (ap (λ (x : ℕ). passed_over (visit st p).mask used x) (some-injective _ _ s) ∙ passed_after st p h w)))) e
+      (λ f s. let same : q ≡ p = cc in
+      ap (λ (v : VisitedNodes). over visit v qs) (ap (visit st) same ∙ sym (visit_passed (visit st p) q (ap (λ (x : ℕ). passed_over (visit st p).mask used x) same ∙ passed_after st p h w)))) e
 
   -- ---- a step leaves the rest as it is
 

@@ -1,7 +1,6 @@
 -- The walk over the ancestors of dying nodes as states and one step: a list that grows and shrinks, which is the path, and the nodes listed. Assumes nothing.
-use Rattle.std.specs.Prelude.{ℕ, zero, suc, ◌+◌, ◌-◌, ◌*◌, ◌≤◌, ◌<◌, ◌≡◌, Bool, false, cond, ◌||◌, eqb, get_or, length, take, List, [], ◌∷◌, ◌++◌}
+use Rattle.std.specs.Prelude.{ℕ, zero, suc, ◌+◌, ◌-◌, ◌*◌, ◌≤◌, ◌<◌, ◌≡◌, Bool, false, cond, ◌||◌, eqb, get_or, length, take, List, [], ◌∷◌, ◌++◌, Option, None, Some}
 use mathlib.Core.List.{Memᴰ}
-use Rattle.std.proofs.Math.Option.{Option, none, some}
 use Rattle.base.specs.Lists.{keep, over, Distinct}
 use Rattle.dataflow_domains.specs.Mask.{bit, holds}
 use Rattle.borrow_analysis.specs.declared.triples.Triple.{Triple}
@@ -45,15 +44,15 @@ passed_over m used n = holds m n || holds used n
 
 -- the first of these nodes that is not
 unfoldable pub first_new : ℕ → ℕ → List ℕ → Option ℕ
-first_new m used [] = none
-first_new m used (p ∷ ps) = cond (passed_over m used p) (first_new m used ps) (some p)
+first_new m used [] = None
+first_new m used (p ∷ ps) = cond (passed_over m used p) (first_new m used ps) (Some p)
 
 -- the end looks through its parents, from the first triple on: a new one is put, and where there is none the end is taken off
 unfoldable pub one_step : List Triple → ℕ → WalkState → WalkState
 one_step ts used w =
     elim (first_new w.visited.mask used (get_parents ts (end_of w))) [
-      | none ↦ take_off w
-      | some p ↦ put w p
+      | None ↦ take_off w
+      | Some p ↦ put w p
     ]
 
 -- at most k steps, until nothing is on the list

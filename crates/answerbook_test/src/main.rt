@@ -7,22 +7,22 @@ use page::page::{PAGE_BYTES, put_page};
 use std::io;
 use streams::read_input;
 
+const SHEETS: usize = 9;
+
 // Two blocks.
 const SHEET: usize = 2 * BLOCK_BYTES;
 
 fn next_page(rt: &HostRuntime) -> io::Result<()> {
     let mut sheet = [0u8; SHEET];
     let mut text = [0u8; PAGE_BYTES];
-    let n = read_input(&mut rt.stdin(), &mut sheet).count()?;
+    let n = read_input(&mut rt.stdin(), &mut sheet)?;
     let m = put_page(&sheet[..n], &mut text);
     rt.write_all(&text[..m])
 }
 
 fn main(rt: HostRuntime) -> io::Result<()> {
-    let mut i = 0u32;
-    while i < 9 {
+    for _ in 0..SHEETS {
         next_page(&rt)?;
-        i += 1;
     }
     Ok(())
 }

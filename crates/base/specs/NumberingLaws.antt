@@ -1,104 +1,136 @@
--- Numbers in the order of first mention, one after the other: what `firsts` gives step by step. Assumes nothing.
-use Rattle.std.specs.Prelude.{◌≡◌, refl, ◌≢◌, Bool, true, false, ◌||◌, ℕ, ◌+◌, ◌≤◌, ◌<◌, get_or, set, length, take, cond, List, [], ◌∷◌, ◌++◌}
-use Rattle.std.proofs.Common.{sym, ap₂, ◌∙◌, subst, ⊎_elim, true≢false, add-one, eq-eqb, ne_eqb, length-set, length-take-le, take-suc, take-suc-set, get_or-set_same, get_or-set_other, ap, arith}
+-- What a `Numbering` holds, step by step: numbers in the order of first mention. Assumes nothing.
+use Rattle.std.specs.Prelude.{◌≡◌, refl, ◌≢◌, Bool, true, false, ◌||◌, ℕ, suc, ◌+◌, ◌-◌, ◌≤◌, ◌<◌, get_or, set, length, take, replicate, cond, List, [], ◌∷◌, ◌++◌, Option, Some, None}
+use Rattle.std.proofs.Common.{sym, ap₂, ◌∙◌, subst, ⊎_elim, true≢false, add-one, eq-eqb, ne_eqb, length-set, length-take-le, take-suc-set, get_or-set_same, get_or-set_other, ap, arith}
 use mathlib.Core.List.Memᴰ
 use mathlib.Core.List.{Memᴰ}
+use Rattle.std.proofs.lemmas.List.{length-replicate}
+use Rattle.std.specs.Option.{SomeIff}
+use Rattle.base.specs.Sizes.{max_number}
 use Rattle.base.specs.Lists.{has, place, firsts, Distinct}
-use Rattle.base.specs.ListLaws.{by_test, by_eq, in_has, firsts_distinct}
-use Rattle.base.specs.GrowLaws.{has_append, place_front, place_end, firsts_append, firsts_old, firsts_new, below_few}
-use Rattle.base.specs.Numbering.{number_in, Numbers, Gives}
+use Rattle.base.specs.ListLaws.{by_test, by_eq, get_d_in, in_has, place_lt, firsts_distinct, copies_at}
+use Rattle.base.specs.GrowLaws.{has_append, place_front, place_end, firsts_old, firsts_new, below_few}
+use Rattle.base.specs.Numbering.{number_of, kept_of, Numbered}
 
--- ---- `number_in`
+-- ---- what is kept
 
-module _ (first : ℕ) (xs : List ℕ) (x : ℕ) where
-  pub number_none : has x xs ≡ false → number_in first xs x ≡ 0
-  unfolding number_in
-  number_none e = ap (λ (b : Bool). cond b (first + place x xs) 0) e
+module _ (xs : List ℕ) (x : ℕ) where
+  pub kept_none : has x xs ≡ false → kept_of xs x ≡ 0
+  unfolding kept_of
+  kept_none e = ap (λ (b : Bool). cond b (suc (place x xs)) 0) e
 
-  pub number_some : has x xs ≡ true → number_in first xs x ≡ first + place x xs
-  unfolding number_in
-  number_some e = ap (λ (b : Bool). cond b (first + place x xs) 0) e
+  pub kept_some : has x xs ≡ true → kept_of xs x ≡ suc (place x xs)
+  unfolding kept_of
+  kept_some e = ap (λ (b : Bool). cond b (suc (place x xs)) 0) e
 
 -- what is behind the list takes the next number, and the others keep theirs
-number_new : (first : ℕ) (xs : List ℕ) (x : ℕ) → has x xs ≡ false → number_in first (xs ++ (x ∷ [])) x ≡ first + length xs
-unfolding has
-number_new first xs x e =
-    number_some first (xs ++ (x ∷ [])) x (has_append x xs (x ∷ []) ∙ ap₂ (λ (a b : Bool). a || (b || false)) e (eq-eqb x x refl))
-    ∙ ap (λ (n : ℕ). first + n) (place_end x xs e)
+kept_new : (xs : List ℕ) (x : ℕ) → has x xs ≡ false → kept_of (xs ++ (x ∷ [])) x ≡ suc (length xs)
+kept_new xs x e =
+    kept_some (xs ++ (x ∷ [])) x (has_append x xs (x ∷ []) ∙ ap₂ (λ (a b : Bool). a || (b || false)) e (eq-eqb x x refl))
+    ∙ ap suc (place_end x xs e)
 
-number_kept : (first : ℕ) (xs : List ℕ) (x y : ℕ) → y ≢ x → number_in first (xs ++ (x ∷ [])) y ≡ number_in first xs y
-unfolding number_in has
-number_kept first xs x y g =
-    ap (λ (b : Bool). cond b (first + place y (xs ++ (x ∷ []))) 0) (has_append y xs (x ∷ []) ∙ ap (λ (b : Bool). has y xs || (b || false)) (ne_eqb y x g))
-    ∙ by_test (λ b. has y xs ≡ b → cond (b || false) (first + place y (xs ++ (x ∷ []))) 0 ≡ cond b (first + place y xs) 0) (has y xs)
-    (λ e q. ap (λ (n : ℕ). first + n) (place_front y xs (x ∷ []) e)) (λ e q. refl) refl
+kept_other : (xs : List ℕ) (x y : ℕ) → y ≢ x → kept_of (xs ++ (x ∷ [])) y ≡ kept_of xs y
+unfolding kept_of
+kept_other xs x y g =
+    ap (λ (b : Bool). cond b (suc (place y (xs ++ (x ∷ [])))) 0) (has_append y xs (x ∷ []) ∙ ap (λ (b : Bool). has y xs || (b || false)) (ne_eqb y x g))
+    ∙ by_test (λ b. has y xs ≡ b → cond (b || false) (suc (place y (xs ++ (x ∷ [])))) 0 ≡ cond b (suc (place y xs)) 0) (has y xs)
+    (λ e q. ap suc (place_front y xs (x ∷ []) e)) (λ e q. refl) refl
 
--- ---- none yet
+-- ---- a `Numbering`: none have numbers yet
 
-pub give_start : (first : ℕ) (numbers order : List ℕ) → ((x : ℕ) → get_or numbers x 0 ≡ 0) → Gives first [] numbers order 0 numbers order 0
-unfolding firsts
-give_start first numbers order z = record {
-  given = record { each = λ x h. z x ∙ sym (number_none first [] x (unfold has in refl)); once = Distinct.empty; within = λ x i. absurd (Memᴰ.not-nil i); inside = omega arith };
-  front = refl;
+pub numbered_none : (n : ℕ) → n ≤ max_number → Numbered n (replicate n 0) (replicate n 0) 0
+numbered_none n few = record {
+  each = λ x h. copies_at n x 0 ∙ sym (kept_none [] x refl);
+  once = Distinct.empty;
+  within = λ x i. absurd (Memᴰ.not-nil i);
+  inside = omega arith;
+  room = length-replicate {A = ℕ} n 0;
+  places = length-replicate {A = ℕ} n 0;
+  few = few;
 }
 
--- none to give
-pub give_nothing : (first : ℕ) (numbers order : List ℕ) (c : ℕ) → Numbers first numbers order c → Gives first [] numbers order c numbers order c
-unfolding firsts
-give_nothing first numbers order c k = record { given = k; front = refl }
+-- ---- the next number to x, where it has none yet; x stands at `at`
 
--- ---- one
-
-module _ (first : ℕ) (numbers order : List ℕ) (c x : ℕ) (k : Numbers first numbers order c) (some : 0 < first) (h : x < length numbers) where
+module _ {n : ℕ} {numbers order : List ℕ} {c at x : ℕ} (ok : Numbered n numbers order c) (h : x < n) (e : at ≡ x) where
   size : length (take c order) ≡ c
-  size = length-take-le c order k.inside
+  size = length-take-le c order (omega (arith, ok.inside, ok.places))
 
-  pub give_old : (get_or numbers x 0 ≡ 0 → ⊥) → Gives first (x ∷ []) numbers order c numbers order c
-  give_old g = record { given = k; front = sym (firsts_old (take c order) x has_number) }
+  kept : get_or numbers at 0 ≡ kept_of (take c order) x
+  kept = ap (λ (i : ℕ). get_or numbers i 0) e ∙ ok.each x h
+
+  pub numbered_old : (get_or numbers at 0 ≡ 0 → ⊥) → take c order ≡ firsts (take c order) (x ∷ [])
+  numbered_old g = sym (firsts_old (take c order) x has_number)
     where
       has_number : has x (take c order) ≡ true
-      has_number = by_test (λ b. has x (take c order) ≡ b → b ≡ true) (has x (take c order)) (λ e q. refl) (λ e q. absurd (g (k.each x h ∙ number_none first (take c order) x e))) refl
+      has_number = by_test (λ b. has x (take c order) ≡ b → b ≡ true) (has x (take c order)) (λ t q. refl) (λ t q. absurd (g (kept ∙ kept_none (take c order) x t))) refl
 
-  module _ (z : get_or numbers x 0 ≡ 0) where
+  module _ (z : get_or numbers at 0 ≡ 0) where
     none_yet : has x (take c order) ≡ false
     none_yet =
         by_test (λ b. has x (take c order) ≡ b → b ≡ false) (has x (take c order))
-        (λ e q. absurd (omega (arith, number_some first (take c order) x e, k.each x h))) (λ e q. refl) refl
+        (λ t q. absurd (omega (arith, kept_some (take c order) x t, kept))) (λ t q. refl) refl
 
-    pub give_room : c < length numbers
-    give_room =
-        omega (arith, size, below_few {xs = x ∷ take c order} (length numbers) (Distinct.one (λ i. true≢false (sym (in_has x (take c order) i) ∙ none_yet)) k.once) (λ y i. ⊎_elim (λ e. omega arith) (λ t. k.within y t) (Memᴰ.cases_cons i)))
+    pub numbered_room : c < n
+    numbered_room =
+        omega (arith, size, below_few {xs = x ∷ take c order} n (Distinct.one (λ i. true≢false (sym (in_has x (take c order) i) ∙ none_yet)) ok.once) (λ y i. ⊎_elim (λ q. omega arith) (λ t. ok.within y t) (Memᴰ.cases_cons i)))
 
-    pub give_new : (w v : ℕ) → w ≡ first + c → v ≡ x → length numbers ≤ length order → Gives first (x ∷ []) numbers order c (set numbers x w) (set order c v) (c + 1)
-    give_new w v ew ev room = rw (ew, ev) (record {
-      given = record { each = each; once = subst (λ (l : List ℕ). Distinct l) (sym after) (firsts_distinct (take c order) (x ∷ []) k.once); within = within; inside = omega (arith, length-set order c x, give_room) };
-      front = after;
-    })
-      where
-        grown : take (c + 1) (set order c x) ≡ take c order ++ (x ∷ [])
-        grown = ap (λ (n : ℕ). take n (set order c x)) (add-one c) ∙ take-suc-set order c x (omega (arith, give_room))
+    grown : take (c + 1) (set order c x) ≡ take c order ++ (x ∷ [])
+    grown = ap (λ (k : ℕ). take k (set order c x)) (add-one c) ∙ take-suc-set order c x (omega (arith, numbered_room, ok.places))
 
-        after : take (c + 1) (set order c x) ≡ firsts (take c order) (x ∷ [])
-        after = grown ∙ sym (firsts_new (take c order) x none_yet)
+    pub numbered_front : take (c + 1) (set order c x) ≡ firsts (take c order) (x ∷ [])
+    numbered_front = grown ∙ sym (firsts_new (take c order) x none_yet)
 
-        each : (y : ℕ) → y < length (set numbers x (first + c)) → get_or (set numbers x (first + c)) y 0 ≡ number_in first (take (c + 1) (set order c x)) y
-        each y l =
-            by_eq y x
-            (λ e. ap (λ (i : ℕ). get_or (set numbers x (first + c)) i 0) e ∙ get_or-set_same numbers x (first + c) 0 h ∙ ap (λ (n : ℕ). first + n) (sym size) ∙ sym (number_new first (take c order) x none_yet) ∙ ap₂ (number_in first) (sym grown) (sym e))
-            (λ g. get_or-set_other numbers x y (first + c) 0 g ∙ k.each y (omega (arith, length-set numbers x (first + c))) ∙ sym (number_kept first (take c order) x y g) ∙ ap (λ (l : List ℕ). number_in first l y) (sym grown))
+    each : (y : ℕ) → y < n → get_or (set numbers at (c + 1)) y 0 ≡ kept_of (take (c + 1) (set order c x)) y
+    each y l =
+        by_eq y x
+        (λ q. ap (λ (i : ℕ). get_or (set numbers at (c + 1)) i 0) (q ∙ sym e) ∙ get_or-set_same numbers at (c + 1) 0 (omega (arith, h, ok.room))
+        ∙ (omega (arith, size)) ∙ sym (kept_new (take c order) x none_yet) ∙ ap₂ kept_of (sym grown) (sym q))
+        (λ g. get_or-set_other numbers at y (c + 1) 0 (λ q. g (q ∙ e)) ∙ ok.each y l ∙ sym (kept_other (take c order) x y g) ∙ ap (λ (l : List ℕ). kept_of l y) (sym grown))
 
-        within : (y : ℕ) → Memᴰ y (take (c + 1) (set order c x)) → y < length (set numbers x (first + c))
-        within y i = ⊎_elim (λ s. omega (arith, k.within y s, length-set numbers x (first + c))) (λ s. omega (arith, Memᴰ.eq_of_singleton s, length-set numbers x (first + c))) (Memᴰ.append_cases (take c order) (subst (λ (l : List ℕ). Memᴰ y l) grown i))
+    within : (y : ℕ) → Memᴰ y (take (c + 1) (set order c x)) → y < n
+    within y i =
+        ⊎_elim (λ s. ok.within y s) (λ s. omega (arith, Memᴰ.eq_of_singleton s))
+        (Memᴰ.append_cases (take c order) (subst (λ (l : List ℕ). Memᴰ y l) grown i))
 
--- ---- one after the other
+    pub numbered_new : Numbered n (set numbers at (c + 1)) (set order c x) (c + 1)
+    numbered_new = record {
+      each = each;
+      once = subst (λ (l : List ℕ). Distinct l) (sym numbered_front) (firsts_distinct (take c order) (x ∷ []) ok.once);
+      within = within;
+      inside = omega (arith, numbered_room);
+      room = length-set numbers at (c + 1) ∙ ok.room;
+      places = length-set order c x ∙ ok.places;
+      few = ok.few;
+    }
 
-pub give_then : {first : ℕ} (xs ys : List ℕ) {numbers order numbers' order' numbers'' order'' : List ℕ} {c r r' : ℕ} → Gives first xs numbers order c numbers' order' r → Gives first ys numbers' order' r numbers'' order'' r' → Gives first (xs ++ ys) numbers order c numbers'' order'' r'
-give_then xs ys {order = order} {c = c} g h = record {
-  given = h.given;
-  front = h.front ∙ ap (λ (l : List ℕ). firsts l ys) g.front ∙ sym (firsts_append (take c order) xs ys);
-}
+  -- the number of x is one less than what is kept
+  pub numbered_number : (r : Option ℕ) → SomeIff r (1 ≤ get_or numbers at 0) (get_or numbers at 0 - 1) → r ≡ number_of (take c order) x
+  unfolding number_of
+  numbered_number None s =
+      by_test (λ b. None ≡ cond b (Some (place x (take c order))) None) (has x (take c order))
+      (λ t. absurd (s (omega (arith, kept, kept_some (take c order) x t)))) (λ f. refl)
+  numbered_number (Some k) s =
+      by_test (λ b. Some k ≡ cond b (Some (place x (take c order))) None) (has x (take c order))
+      (λ t. ap Some (omega (arith, s.0, s.1, kept, kept_some (take c order) x t)))
+      (λ f. absurd (omega (arith, s.0, kept, kept_none (take c order) x f)))
 
--- the next element of a list
-pub give_next : {first : ℕ} (xs : List ℕ) (i x : ℕ) {numbers order numbers' order' numbers'' order'' : List ℕ} {c r r' : ℕ} → Gives first (take i xs) numbers order c numbers' order' r → Gives first (x ∷ []) numbers' order' r numbers'' order'' r'
-    → i < length xs → x ≡ get_or xs i 0 → Gives first (take (i + 1) xs) numbers order c numbers'' order'' r'
-give_next xs i x g k h e = rw (add-one i, take-suc xs i 0 h, ← e) (give_then (take i xs) (x ∷ []) g k)
+-- ---- those that have numbers
+
+module _ {n : ℕ} {numbers order : List ℕ} {c : ℕ} {xs : List ℕ} (ok : Numbered n numbers order c) (seen : take c order ≡ xs) where
+  there : {x : ℕ} → Memᴰ x xs → Memᴰ x (take c order)
+  there {x} i = subst (λ (l : List ℕ). Memᴰ x l) (sym seen) i
+
+  pub order_below : (i : ℕ) → i < length xs → get_or xs i 0 < n
+  order_below i h = ok.within (get_or xs i 0) (there (get_d_in xs i 0 h))
+
+  module _ {at x : ℕ} (i : Memᴰ x xs) (e : at ≡ x) where
+    pub known_is : get_or numbers at 0 ≡ suc (place x xs)
+    known_is =
+        ap (λ (k : ℕ). get_or numbers k 0) e ∙ ok.each x (ok.within x (there i)) ∙ kept_some (take c order) x (in_has x (take c order) (there i))
+        ∙ ap (λ (l : List ℕ). suc (place x l)) seen
+
+    pub known_below : place x xs < n
+    known_below = omega (arith, place_lt x xs i, ap length seen, length-take-le c order (omega (arith, ok.inside, ok.places)), ok.inside)
+
+pub number_in_list : (xs : List ℕ) (x : ℕ) → Memᴰ x xs → number_of xs x ≡ Some (place x xs)
+unfolding number_of
+number_in_list xs x i = ap (λ (b : Bool). cond b (Some (place x xs)) None) (in_has x xs i)

@@ -72,7 +72,6 @@ module _ (ts : List Triple) (used c : ℕ) (inside : (t : Triple) → Memᴰ t t
   -- step after step, where there is depth for each node that is not visited
   pub over_visits : (d : ℕ) (f : VisitedNodes → ℕ → VisitedNodes) → ((st : VisitedNodes) (n : ℕ) → n < c → ListedBelow c st → c ≤ d + ones st.mask → VisitedAll ts used c st (f st n) (n ∷ []))
       → (xs : List ℕ) → ((x : ℕ) → Memᴰ x xs → x < c) → (st : VisitedNodes) → ListedBelow c st → c ≤ d + ones st.mask → VisitedAll ts used c st (over f st xs) xs
-  unfolding over
   over_visits d f step [] h st w l = record { grows = record { fair = w; has = sub_refl st.mask }; closed = closed_none st; settled = λ x i. absurd (Memᴰ.not-nil i) }
   over_visits d f step (y ∷ ys) h st w l =
       let one = step st y (h y (Memᴰ.head refl)) w l in
@@ -132,7 +131,6 @@ module _ (ts : List Triple) (used c : ℕ) (inside : (t : Triple) → Memᴰ t t
   pub over_same : (d : ℕ) (f g : VisitedNodes → ℕ → VisitedNodes) → ((st : VisitedNodes) (n : ℕ) → n < c → ListedBelow c st → c ≤ d + ones st.mask → f st n ≡ g st n)
       → ((st : VisitedNodes) (n : ℕ) → n < c → ListedBelow c st → VisitsGrow c st (f st n))
       → (xs : List ℕ) → ((x : ℕ) → Memᴰ x xs → x < c) → (st : VisitedNodes) → ListedBelow c st → c ≤ d + ones st.mask → over f st xs ≡ over g st xs
-  unfolding over
   over_same d f g step grows [] h st w l = refl
   over_same d f g step grows (y ∷ ys) h st w l =
       let low : y < c = h y (Memᴰ.head refl) in

@@ -1,9 +1,10 @@
 -- Borrow graphs as they are handed over, and checks 12 to 14. Assumes nothing.
-use Rattle.std.specs.Prelude.{ℕ, ◌+◌, ◌-◌, ◌*◌, ◌/◌, ◌%◌, ◌^◌, Bool, cond, ◌||◌, ◌&&◌, List, eqb, leb, ltb, get_or, length}
-use Rattle.std.proofs.Math.Option.{Option, none, some}
+use Rattle.std.specs.Prelude.{ℕ, ◌+◌, ◌-◌, ◌*◌, ◌/◌, ◌%◌, ◌^◌, Bool, cond, ◌||◌, ◌&&◌, List, eqb, leb, ltb, get_or, length, Option, Some}
+use Rattle.base.specs.declared.Refusal.TheVariants.{Nodes, Triples, AskedNode}
 use Rattle.base.specs.Sizes.{max_locals, max_triples}
 use Rattle.base.specs.Lists.{tab, first_bad}
-use Rattle.base.specs.Refusals.{Verdict, check, whole, ◌then◌}
+use Rattle.base.specs.Refusals.{Verdict, check, ◌then◌, check_whole}
+use Rattle.borrow_analysis.specs.declared.graph.InputGraph.{InputGraph}
 use Rattle.borrow_analysis.specs.declared.triples.Triple.{Triple}
 
 -- ---- graphs
@@ -22,6 +23,9 @@ pub record GraphInput : Type 0 where
 
 abbrev pub graph_input : ℕ → ℕ → List ℕ → GraphInput
 graph_input count live numbers = record { count = count; live = live; numbers = numbers }
+
+abbrev pub input_of : InputGraph → GraphInput
+input_of g = graph_input g.nodes g.live g.triples.now
 
 abbrev pub triple_at : List ℕ → ℕ → Triple
 triple_at xs i = record { parent = get_or xs (3 * i) 0; child = get_or xs (3 * i + 1) 0; edge = get_or xs (3 * i + 2) 0 }
@@ -58,22 +62,18 @@ length_place = 300
 unfoldable pub triples_bad : ℕ → List ℕ → Option ℕ
 triples_bad count xs =
     let n = length xs in
-    cond (eqb (n % 3) 0 && leb (n / 3) max_triples) (first_bad (n / 3) 0 (triple_ok count xs)) (some length_place)
+    cond (eqb (n % 3) 0 && leb (n / 3) max_triples) (first_bad (n / 3) 0 (triple_ok count xs)) (Some length_place)
 
 -- ---- the checks of a call
 
 -- 12, 13, and then 14: the asked node is below the count
 unfoldable pub check_asked : GraphInput → ℕ → Verdict
 check_asked g node =
-    check 12 (whole (nodes_ok g.count g.live))
-    then check 13 (triples_bad g.count g.numbers)
-    then check 14 (whole (ltb node g.count))
+    check_whole (Nodes 0) (nodes_ok g.count g.live)
+    then check Triples (triples_bad g.count g.numbers)
+    then check_whole AskedNode (ltb node g.count)
 
--- a place, moved on by `by`: the second graph's are, by 1 in check 12 and by 1,000 in check 13
-unfoldable pub moved : ℕ → Option ℕ → Option ℕ
-moved by none = none
-moved by (some p) = some (by + p)
-
+-- what is added to a place of the second graph, in check 12 and in check 13
 abbrev pub next_nodes : ℕ
 next_nodes = 1
 
@@ -83,7 +83,7 @@ next_triples = 1000
 -- 12 of both graphs, then 13 of both
 unfoldable pub check_graphs : GraphInput → GraphInput → Verdict
 check_graphs here next =
-    check 12 (whole (nodes_ok here.count here.live))
-    then check 12 (moved next_nodes (whole (nodes_ok next.count next.live)))
-    then check 13 (triples_bad here.count here.numbers)
-    then check 13 (moved next_triples (triples_bad next.count next.numbers))
+    check_whole (Nodes 0) (nodes_ok here.count here.live)
+    then check_whole (Nodes next_nodes) (nodes_ok next.count next.live)
+    then check Triples (triples_bad here.count here.numbers)
+    then check (λ p. Triples (next_triples + p)) (triples_bad next.count next.numbers)

@@ -1,8 +1,8 @@
 -- What the contracts and the loops of the calls' parts say of graphs and of sets of nodes. Assumes nothing.
-use Rattle.std.specs.Prelude.{◌≡◌, ◌⊎◌, List, ℕ, ◌+◌, ◌-◌, ◌*◌, ◌/◌, ◌^◌, ◌≤◌, ◌<◌, ltb, get_or, length}
+use Rattle.std.specs.Prelude.{◌≡◌, List, ℕ, ◌+◌, ◌-◌, ◌*◌, ◌/◌, ◌^◌, ◌≤◌, ◌<◌, ltb, get_or, length}
 use Rattle.base.specs.Sizes.{max_locals, max_triples}
 use Rattle.base.specs.Lists.{tab}
-use Rattle.dataflow_domains.specs.Mask.{bit, holds, union, Sub}
+use Rattle.dataflow_domains.specs.Mask.{holds, union, Sub}
 use Rattle.borrow_analysis.specs.declared.triples.Triple.{Triple}
 use Rattle.borrow_analysis.specs.Graph.{GraphInput}
 use Rattle.borrow_analysis.specs.Borrows.{incoming, parents_in}
@@ -23,17 +23,13 @@ pub record AcceptedGraph (g : GraphInput) : Type 0 where
 
 -- ---- sets of nodes
 
--- `left` has the nodes of m from c on
-pub record KeptFrom (c m left : ℕ) : Type 0 where
-  pub each : (k : ℕ) → c ≤ k → bit left k ≡ bit m k
-
 -- m has exactly the nodes to which more than one triple leads
 pub record ManyIncoming (ts : List Triple) (m : ℕ) : Type 0 where
   pub each : (k : ℕ) → holds m k ≡ ltb 1 (incoming ts k)
 
--- of n triples those before i: `last` has for each node the place of the last that leads to it, and n where none does; `many` has the nodes to which more than one does
-pub record IncomingCounted (ts : List Triple) (n i : ℕ) (last : List ℕ) (many : ℕ) : Type 0 where
-  pub one : (k : ℕ) → k < max_locals → ((get_or last k 0 ≡ n) × (incoming ts k ≡ 0)) ⊎ ((get_or last k 0 < i) × (0 < incoming ts k))
+-- `once` has exactly the nodes to which a triple leads, `many` those to which more than one does
+pub record IncomingCounted (ts : List Triple) (once many : ℕ) : Type 0 where
+  pub one : (k : ℕ) → holds once k ≡ ltb 0 (incoming ts k)
   pub two : (k : ℕ) → holds many k ≡ ltb 1 (incoming ts k)
 
 -- one turn up, of n triples: g has m and the parents by the first i

@@ -1,26 +1,28 @@
 -- The answers of accepted calls mean what Meaning says, on cycles too. Assumes nothing.
-use Rattle.std.specs.Prelude.{◌≡◌, refl, Bool, true, false, cond, ℕ, ◌/◌, ◌^◌, ◌≤◌, ◌<◌, eqb, length, List, []}
+use Rattle.std.specs.Prelude.{◌≡◌, refl, Bool, true, false, cond, ℕ, ◌/◌, ◌^◌, ◌≤◌, ◌<◌, eqb, length, List, [], Result, Ok, ◌++◌, take, drop}
 use Rattle.std.proofs.Common.{sym, ap, ◌∙◌, subst, ⊎_elim, arith, ltb-true, lt-ltb, pow_pos, true≢false}
 use mathlib.Core.List.Memᴰ
 use mathlib.Core.List.{Memᴰ}
 use Rattle.base.specs.Lists.{over, empty}
 use Rattle.base.specs.JoinLaws.{by_lt}
 use Rattle.base.specs.TabLaws.{over_keeps}
-use Rattle.base.specs.Refusals.{Verdict, Accepted, Done, reply, Result, result_of}
-use Rattle.base.specs.ReplyLaws.{reply_done}
+use Rattle.base.specs.declared.Refusal.{Refusal}
+use Rattle.base.specs.Refusals.{Verdict, Accepted, Reply, Done, reply, answer_of, output_after}
+use Rattle.base.specs.ReplyLaws.{reply_done, done_result}
 use Rattle.dataflow_domains.specs.Mask.{bit, holds}
 use Rattle.dataflow_domains.specs.Members.{members}
 use Rattle.dataflow_domains.specs.MemberLaws.{in_members, members_in}
 use Rattle.dataflow_domains.specs.MaskLaws.{bit_below, bit_empty, ones_zero}
 use Rattle.dataflow_domains.specs.HoldsLaws.{holds_true, true_holds}
 use Rattle.borrow_analysis.specs.declared.triples.Triple.{Triple}
-use Rattle.borrow_analysis.specs.Graph.{Graph, GraphInput, triple_at, graph_of, check_asked, check_graphs}
-use Rattle.borrow_analysis.specs.Borrows.{incoming, above, is_in_use, many_in, is_conditional, VisitedNodes, none_visited, collect_ancestors, dying_nodes_at, dying_nodes, in_use_reply, conditional_reply}
+use Rattle.borrow_analysis.specs.Graph.{Graph, GraphInput, triple_at, triples_of, graph_of, check_asked, check_graphs}
+use Rattle.borrow_analysis.specs.Borrows.{incoming, upward, above, is_in_use, many_in, is_conditional, VisitedNodes, none_visited, collect_ancestors, dying_nodes_at, dying_nodes, in_use_reply, conditional_reply, dying_reply}
 use Rattle.borrow_analysis.specs.Meaning.{Descends, same, down, InUse, Conditional, Dies, live, parent, DyingList, Decides}
-use Rattle.borrow_analysis.specs.GraphParts.{AcceptedGraph}
-use Rattle.borrow_analysis.specs.Visiting.{ListedOnce, AllListed, VisitedAll}
+use Rattle.borrow_analysis.specs.GraphParts.{AcceptedGraph, ManyIncoming}
+use Rattle.borrow_analysis.specs.Visiting.{VisitsWritten, ListedOnce, AllListed, VisitedAll}
 use Rattle.borrow_analysis.specs.BorrowLaws.{above_reaches, reaches_above, in_use_reaches, reaches_in_use}
 use Rattle.borrow_analysis.specs.TripleLaws.{many_out, many_lt, many_bits, incoming_out}
+use Rattle.borrow_analysis.specs.CallLaws.{in_use_done, conditional_done, DyingListed, dying_done}
 use Rattle.borrow_analysis.specs.AcceptedLaws.{accepted_asked, accepted_graphs}
 use Rattle.borrow_analysis.specs.AncestorLaws.{collect_grows}
 use Rattle.borrow_analysis.specs.VisitLaws.{parents_below}
@@ -49,10 +51,16 @@ yes_decides : (b : Bool) {P : Type 0} → Decides b P → Decides (eqb (cond b 1
 yes_decides true w = w
 yes_decides false w = w
 
--- of the result of an accepted call
-answer_decides : {v : Verdict} (b : Bool) {P : Type 0} {r : Result} → v ≡ Accepted → Decides b P → r ≡ result_of (reply v (Done (cond b 1 0) [])) → Decides (eqb r.value 1) P
-unfolding result_of
-answer_decides b {P} a w e = subst (λ (r : Result). Decides (eqb r.value 1) P) (sym (e ∙ ap result_of (reply_done (Done (cond b 1 0) []) a))) (yes_decides b w)
+-- the answer of an accepted call, and what it means
+pub record Answers (r : Reply) (P : Type 0) (yes : ℕ) : Type 0 where
+  pub result : ◌≡◌ {A = Result ℕ Refusal} (Ok yes) (answer_of r)
+  pub means : Decides (eqb yes 1) P
+
+answers : {v : Verdict} (b : Bool) {P : Type 0} {yes : ℕ} → v ≡ Accepted → ◌≡◌ {A = Result ℕ Refusal} (Ok yes) (answer_of (reply v (Done (cond b 1 0) []))) → Decides b P → Answers (reply v (Done (cond b 1 0) [])) P yes
+answers b {P} {yes} ok e w =
+    let is : ◌≡◌ {A = Result ℕ Refusal} (Ok yes) (Ok (cond b 1 0)) = e ∙ ap answer_of (reply_done (Done (cond b 1 0) []) ok) in
+    let same : yes ≡ cond b 1 0 = cc in
+    record { result = e; means = subst (λ (n : ℕ). Decides (eqb n 1) P) (sym same) (yes_decides b w) }
 
 -- ---- in use
 
@@ -66,9 +74,13 @@ in_use_decides g w n = record {
 pub in_use_means : (g : GraphInput) (node : ℕ) → check_asked g node ≡ Accepted → Decides (is_in_use (graph_of g) node) (InUse (graph_of g) node)
 in_use_means g node e = in_use_decides g (accepted_asked g node e).0 node
 
-pub in_use_answer : (g : GraphInput) (node : ℕ) {r : Result} → check_asked g node ≡ Accepted → r ≡ result_of (in_use_reply g node) → Decides (eqb r.value 1) (InUse (graph_of g) node)
+-- the answer and its meaning; h is the graph that was accepted
+pub in_use_answer : (g : GraphInput) (node : ℕ) {h : GraphInput} {yes : ℕ} → check_asked g node ≡ Accepted → h ≡ g → yes ≡ cond (holds (upward h.count (triples_of h.numbers) h.live) node) 1 0
+    → Answers (in_use_reply g node) (InUse (graph_of g) node) yes
 unfolding in_use_reply
-in_use_answer g node a e = answer_decides _ a (in_use_means g node a) e
+in_use_answer g node {h} {yes} a e f =
+    let is : yes ≡ cond (holds (upward g.count (triples_of g.numbers) g.live) node) 1 0 = rw e at f in
+    answers _ a (done_result is (in_use_done g node _ _ a refl refl)) (in_use_means g node a)
 
 -- a node in use is below the count
 in_use_below : (g : GraphInput) → AcceptedGraph g → (n : ℕ) → InUse (graph_of g) n → n < (graph_of g).count
@@ -104,9 +116,13 @@ pub conditional_means : (g : GraphInput) (node : ℕ) → check_asked g node ≡
 conditional_means g node e = let w = (accepted_asked g node e).0 in
     record { sound = conditional_sound (graph_of g) node; complete = conditional_complete (graph_of g) node (parents_lt g w) (many_below g w) }
 
-pub conditional_answer : (g : GraphInput) (node : ℕ) {r : Result} → check_asked g node ≡ Accepted → r ≡ result_of (conditional_reply g node) → Decides (eqb r.value 1) (Conditional (graph_of g) node)
+pub conditional_answer : (g : GraphInput) (node : ℕ) {h : GraphInput} {m yes : ℕ} → check_asked g node ≡ Accepted → h ≡ g → ManyIncoming (triples_of h.numbers) m
+    → yes ≡ cond (holds (upward h.count (triples_of h.numbers) m) node) 1 0 → Answers (conditional_reply g node) (Conditional (graph_of g) node) yes
 unfolding conditional_reply
-conditional_answer g node a e = answer_decides _ a (conditional_means g node a) e
+conditional_answer g node {h} {m} {yes} a e w f =
+    let is : yes ≡ cond (holds (upward g.count (triples_of g.numbers) m) node) 1 0 = rw e at f in
+    let many : ManyIncoming (triples_of g.numbers) m = rw e at w in
+    answers _ a (done_result is (conditional_done g node _ _ a refl many)) (conditional_means g node a)
 
 -- ---- dying
 
@@ -181,3 +197,21 @@ module _ (here next : Graph) (inside : (t : Triple) → Memᴰ t here.triples �
 pub dying_means : (here next : GraphInput) → check_graphs here next ≡ Accepted → DyingList (graph_of here) (graph_of next) (dying_nodes (graph_of here) (graph_of next))
 dying_means here next e = let w = accepted_graphs here next e in
     dying_all (graph_of here) (graph_of next) (parents_lt here w.0) (live_lt here w.0) (λ n. in_use_decides next w.1 n) (λ n r. in_use_below next w.1 n r)
+
+-- the answer, what was lent and the meaning; h and n are the graphs that were accepted
+pub record DyingAnswer (here next : GraphInput) (k : ℕ) (lent new : List ℕ) : Type 0 where
+  pub result : ◌≡◌ {A = Result ℕ Refusal} (Ok k) (answer_of (dying_reply here next (length lent)))
+  pub written : new ≡ output_after (dying_reply here next (length lent)) lent
+  pub means : DyingList (graph_of here) (graph_of next) (take k new)
+
+dying_listed : (here next : GraphInput) {k : ℕ} {lent new : List ℕ} → check_graphs here next ≡ Accepted → DyingListed here next k lent new → DyingAnswer here next k lent new
+dying_listed here next a r = record { result = r.result; written = r.written; means = subst (DyingList (graph_of here) (graph_of next)) (sym r.front) (dying_means here next a) }
+
+pub dying_answer : (here next : GraphInput) (lent : List ℕ) {h n : GraphInput} {used m k : ℕ} {part : List ℕ} → check_graphs here next ≡ Accepted → h ≡ here → n ≡ next → h.count ≤ length lent
+    → used ≡ upward n.count (triples_of n.numbers) n.live → (let c = length (take h.count lent) in
+    VisitsWritten (over (collect_ancestors c (triples_of h.numbers) used) none_visited (members c h.live)) m k (take h.count lent) part × (k ≤ c))
+    → DyingAnswer here next k lent (part ++ drop h.count lent)
+dying_answer here next lent {h} {n} {used} {m} {k} {part} a e f l u came =
+    let same : check_graphs h n ≡ Accepted = rw (e, f) a in
+    subst (λ (g : GraphInput). DyingAnswer g next k lent (part ++ drop h.count lent)) e
+    (subst (λ (g : GraphInput). DyingAnswer h g k lent (part ++ drop h.count lent)) f (dying_listed h n same (dying_done h n lent same l u came)))

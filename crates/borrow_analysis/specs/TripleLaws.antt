@@ -1,8 +1,6 @@
 -- How many triples lead to a node, as one loop over the triples finds out: those to which one leads, and those to which more do. Assumes nothing.
-use Rattle.std.specs.Prelude.{◌≡◌, refl, Bool, true, false, cond, ◌||◌, List, [], ◌∷◌, ◌++◌, ℕ, zero, suc, ◌+◌, ◌^◌, ◌≤◌, ◌<◌, eqb, ltb, get_or, set, length, replicate, ◌⊎◌}
-use Rattle.std.proofs.Common.{sym, ap, ap₂, ◌∙◌, subst, zero-add, add-one, arith, lt-ltb, le-ltb, eq-eqb, ne_eqb, get_or-set_same, get_or-set_other, inl, inr, ⊎_elim, pow_pos}
-use Rattle.std.proofs.lemmas.List.{get_or-replicate}
-use Rattle.base.specs.Sizes.{max_locals}
+use Rattle.std.specs.Prelude.{◌≡◌, refl, Bool, true, false, cond, ◌||◌, List, [], ◌∷◌, ◌++◌, ℕ, zero, suc, ◌+◌, ◌^◌, ◌≤◌, ◌<◌, eqb, ltb}
+use Rattle.std.proofs.Common.{sym, ap, ap₂, ◌∙◌, subst, zero-add, add-one, arith, lt-ltb, le-ltb, eq-eqb, ne_eqb, ltb-true, ltb-false, pow_pos}
 use Rattle.std.proofs.Math.Pow.{pow-lt}
 use Rattle.base.specs.Lists.{tab}
 use Rattle.base.specs.ListLaws.{by_test, by_eq}
@@ -34,33 +32,31 @@ unfolding incoming
 incoming_other xs t k g =
     incoming_append xs (t ∷ []) k ∙ ap (λ (b : Bool). incoming xs k + cond b 1 0) (ne_eqb t.child k (λ e. g (sym e))) ∙ omega arith
 
-pub counted_none : (f : ℕ → Triple) (n : ℕ) {many : ℕ} → many ≡ 0 → IncomingCounted (tab 0 0 f) n 0 (replicate max_locals n) many
+pub counted_none : (f : ℕ → Triple) → IncomingCounted (tab 0 0 f) 0 0
 unfolding incoming tab
-counted_none f n e = rw e (record { one = λ k l. inl (get_or-replicate max_locals k n 0 l, refl); two = λ k. false_holds 0 k (bit_empty k) })
+counted_none f = record { one = λ k. false_holds 0 k (bit_empty k); two = λ k. false_holds 0 k (bit_empty k) }
 
-module _ (ts : List Triple) (t : Triple) (n i : ℕ) (last : List ℕ) {many : ℕ} (w : IncomingCounted ts n i last many) (size : length last ≡ max_locals) (low : t.child < max_locals) where
-  counted_one : (k : ℕ) → k < max_locals
-      → ((get_or (set last t.child i) k 0 ≡ n) × (incoming (ts ++ (t ∷ [])) k ≡ 0)) ⊎ ((get_or (set last t.child i) k 0 < suc i) × (0 < incoming (ts ++ (t ∷ [])) k))
-  counted_one k h =
+module _ (ts : List Triple) (t : Triple) {once many : ℕ} (w : IncomingCounted ts once many) where
+  counted_one : (k : ℕ) → holds (union once (2 ^ t.child)) k ≡ ltb 0 (incoming (ts ++ (t ∷ [])) k)
+  counted_one k =
       by_eq k t.child
-      (λ s. inr (omega (arith, ap (λ (j : ℕ). get_or (set last t.child i) j 0) s, get_or-set_same last t.child i 0 (omega arith)), omega (arith, ap (incoming (ts ++ (t ∷ []))) s, incoming_here ts t)))
-      (λ g. let same : get_or (set last t.child i) k 0 ≡ get_or last k 0 = get_or-set_other last t.child k i 0 g in
-      let other : incoming (ts ++ (t ∷ [])) k ≡ incoming ts k = incoming_other ts t k g in
-      ⊎_elim (λ x. inl (same ∙ x.0, other ∙ x.1)) (λ x. inr (omega (arith, same, x.0), omega (arith, other, x.1))) (w.one k h))
+      (λ s. subst (λ (j : ℕ). holds (union once (2 ^ t.child)) j ≡ ltb 0 (incoming (ts ++ (t ∷ [])) j)) (sym s)
+      (holds_insert once t.child ∙ sym (lt-ltb 0 (incoming (ts ++ (t ∷ [])) t.child) (omega (arith, incoming_here ts t)))))
+      (λ g. holds_insert_other once t.child k g ∙ w.one k ∙ ap (ltb 0) (sym (incoming_other ts t k g)))
 
   -- one before it leads to its child; none does
-  counted_again : i < n → get_or last t.child 0 < i → IncomingCounted (ts ++ (t ∷ [])) n (suc i) (set last t.child i) (union many (2 ^ t.child))
-  counted_again l e = record {
+  counted_again : holds once t.child ≡ true → IncomingCounted (ts ++ (t ∷ [])) (union once (2 ^ t.child)) (union many (2 ^ t.child))
+  counted_again e = record {
     one = counted_one;
     two = λ k. by_eq k t.child
         (λ s. subst (λ (j : ℕ). holds (union many (2 ^ t.child)) j ≡ ltb 1 (incoming (ts ++ (t ∷ [])) j)) (sym s)
-        (holds_insert many t.child ∙ sym (lt-ltb 1 (incoming (ts ++ (t ∷ [])) t.child) (⊎_elim (λ x. absurd (omega (arith, x.0))) (λ x. omega (arith, x.1, incoming_here ts t)) (w.one t.child low)))))
+        (holds_insert many t.child ∙ sym (lt-ltb 1 (incoming (ts ++ (t ∷ [])) t.child) (omega (arith, incoming_here ts t, ltb-true 0 (incoming ts t.child) (sym (w.one t.child) ∙ e))))))
         (λ g. holds_insert_other many t.child k g ∙ w.two k ∙ ap (ltb 1) (sym (incoming_other ts t k g)));
   }
 
-  counted_first : i ≤ get_or last t.child 0 → IncomingCounted (ts ++ (t ∷ [])) n (suc i) (set last t.child i) many
+  counted_first : holds once t.child ≡ false → IncomingCounted (ts ++ (t ∷ [])) (union once (2 ^ t.child)) many
   counted_first e =
-      let none : incoming ts t.child ≡ 0 = ⊎_elim (λ x. x.1) (λ x. absurd (omega (arith, x.0))) (w.one t.child low) in
+      let none : incoming ts t.child ≤ 0 = ltb-false 0 (incoming ts t.child) (sym (w.one t.child) ∙ e) in
       record {
         one = counted_one;
         two = λ k. by_eq k t.child
@@ -69,21 +65,16 @@ module _ (ts : List Triple) (t : Triple) (n i : ℕ) (last : List ℕ) {many : �
             (λ g. w.two k ∙ ap (ltb 1) (sym (incoming_other ts t k g)));
       }
 
--- triple i, at place p, leads to k, which is noted at a
-module _ (f : ℕ → Triple) {n i k a p many two : ℕ} {last new : List ℕ} (w : IncomingCounted (tab i 0 f) n i last many) (size : length last ≡ max_locals) (low : k < max_locals)
-    (child : k ≡ (f i).child) (at : a ≡ k) (place : p ≡ i) (e : new ≡ set last a p) where
-  pub counted_more : i < n → get_or last a 0 < p → two ≡ union many (2 ^ k) → IncomingCounted (tab (i + 1) 0 f) n (i + 1) new two
-  counted_more l b d =
-      rw (tab_last i f, add-one i, e, d, at, place, child)
-      (counted_again (tab i 0 f) (f i) n i last w size (subst (λ (x : ℕ). x < max_locals) child low) l (subst (λ (x : ℕ). get_or last x 0 < i) (at ∙ child) (subst (λ (x : ℕ). get_or last a 0 < x) place b)))
+-- triple i leads to k; b says whether one before it does
+module _ (f : ℕ → Triple) {i k once many one two : ℕ} {b : Bool} (w : IncomingCounted (tab i 0 f) once many) (child : k ≡ (f i).child) (test : b ≡ holds once k) (e : one ≡ union once (2 ^ k)) where
+  pub counted_more : b ≡ true → two ≡ union many (2 ^ k) → IncomingCounted (tab (i + 1) 0 f) one two
+  counted_more t d = rw (tab_last i f, e, d, child) (counted_again (tab i 0 f) (f i) w (ap (holds once) (sym child) ∙ sym test ∙ t))
 
-  pub counted_new : p ≤ get_or last a 0 → two ≡ many → IncomingCounted (tab (i + 1) 0 f) n (i + 1) new two
-  counted_new b d =
-      rw (tab_last i f, add-one i, e, d, at, place, child)
-      (counted_first (tab i 0 f) (f i) n i last w size (subst (λ (x : ℕ). x < max_locals) child low) (subst (λ (x : ℕ). i ≤ get_or last x 0) (at ∙ child) (subst (λ (x : ℕ). x ≤ get_or last a 0) place b)))
+  pub counted_new : b ≡ false → two ≡ many → IncomingCounted (tab (i + 1) 0 f) one two
+  counted_new t d = rw (tab_last i f, e, d, child) (counted_first (tab i 0 f) (f i) w (ap (holds once) (sym child) ∙ sym test ∙ t))
 
-pub counted_all : (f : ℕ → Triple) {n i many : ℕ} {last : List ℕ} → i ≡ n → IncomingCounted (tab i 0 f) n i last many → ManyIncoming (tab n 0 f) many
-counted_all f {n} {i} {many} e w = record { each = λ k. w.two k ∙ ap (λ (j : ℕ). ltb 1 (incoming (tab j 0 f) k)) e }
+pub counted_all : (f : ℕ → Triple) {n i once many : ℕ} → i ≡ n → IncomingCounted (tab i 0 f) once many → ManyIncoming (tab n 0 f) many
+counted_all f {n} {i} {once} {many} e w = record { each = λ k. w.two k ∙ ap (λ (j : ℕ). ltb 1 (incoming (tab j 0 f) k)) e }
 
 -- ---- those of the nodes below c, as a mask: all of them, where the triples lead to no other
 

@@ -1,50 +1,19 @@
 -- What the contracts, the loops and the laws of the visits of dying nodes say. Assumes nothing.
-use Rattle.std.specs.Prelude.{◌≡◌, ◌⊎◌, true, ℕ, ◌^◌, ◌≤◌, ◌<◌, length, take, drop, List, ◌++◌}
+use Rattle.std.specs.Prelude.{◌≡◌, ◌⊎◌, true, ℕ, ◌^◌, ◌<◌, length, drop, List, ◌++◌}
 use mathlib.Core.List.{Memᴰ}
 use Rattle.std.specs.Int.Count.{ones}
-use Rattle.base.specs.Lists.{over, Distinct}
+use Rattle.base.specs.Lists.{Distinct}
 use Rattle.dataflow_domains.specs.Mask.{bit, holds, Sub}
-use Rattle.dataflow_domains.specs.Members.{members}
 use Rattle.borrow_analysis.specs.declared.triples.Triple.{Triple}
-use Rattle.borrow_analysis.specs.Graph.{triples_of}
-use Rattle.borrow_analysis.specs.Borrows.{VisitedNodes, none_visited, collect_ancestors}
+use Rattle.borrow_analysis.specs.Borrows.{VisitedNodes}
 
 -- ---- visits in lent bytes
-
--- the nodes visited, as a mask and as the first k of the lent bytes
-abbrev pub visited_of : ℕ → ℕ → List ℕ → VisitedNodes
-visited_of m k out = record { mask = m; listed = take k out }
-
--- k nodes are visited, each below c
-pub record VisitedBelow (c m k : ℕ) : Type 0 where
-  pub ones : k ≡ ones m
-  pub small : m < 2 ^ c
 
 -- the visits came to st: the mask m, k nodes listed, and what was lent holds them and then what it held
 pub record VisitsWritten (st : VisitedNodes) (m k : ℕ) (old new : List ℕ) : Type 0 where
   pub set : m ≡ st.mask
   pub count : k ≡ length st.listed
   pub wrote : new ≡ st.listed ++ drop (length st.listed) old
-
--- from k₀ nodes in `old` to k in `out`, and the rest as it was; there is room for each of the c nodes
-pub record VisitsSoFar (c k₀ : ℕ) (old : List ℕ) (m k : ℕ) (out : List ℕ) : Type 0 where
-  pub room : VisitedBelow c m k
-  pub wide : c ≤ length old
-  pub more : k₀ ≤ k
-  pub long : length out ≡ length old
-  pub rest : drop k out ≡ drop k old
-
--- one visit more, which came to st
-pub record AfterVisit (c : ℕ) (st : VisitedNodes) (k₀ : ℕ) (old : List ℕ) (m k : ℕ) (out : List ℕ) : Type 0 where
-  pub going : VisitsSoFar c k₀ old m k out
-  pub state : visited_of m k out ≡ st
-
--- the loop over the set `from` of the nodes to start from, when those of `left` are to come
-pub record StartVisits (xs : List ℕ) (used from : ℕ) (old : List ℕ) (left m k : ℕ) (out : List ℕ) : Type 0 where
-  pub going : VisitsSoFar (length old) 0 old m k out
-  pub small : left < 2 ^ length old
-  pub work : over (collect_ancestors (length old) (triples_of xs) used) none_visited (members (length old) from)
-      ≡ over (collect_ancestors (length old) (triples_of xs) used) (visited_of m k out) (members (length old) left)
 
 -- ---- visits of the definition
 

@@ -1,24 +1,40 @@
-// Graphs as they are handed over: the live nodes as a set, and checks 12 to 14. Assumes nothing.
-ghost use Rattle.std.specs.Prelude.{◌≡◌, ◌*◌, ◌/◌, ◌^◌, ◌<◌, ◌≤◌, ltb, length};
+// Graphs as they are handed over, checks 12 to 14, and the graphs that these accept. Assumes nothing.
+ghost use Rattle.std.specs.Prelude.{◌≡◌, ◌+◌, ◌/◌, ◌^◌, ◌<◌, ◌≤◌, true, ltb, length, None, Err, IfSome, IfOk, OnOk, IfErr};
+ghost use Rattle.base.specs.Sizes.{max_locals};
 ghost use Rattle.base.specs.Lists.{first_bad};
-ghost use Rattle.base.specs.Refusals.{check, whole, found_of, verdict_of};
+ghost use Rattle.base.specs.Refusals.{Accepted, check, check_whole};
 ghost use Rattle.dataflow_domains.specs.Sets.{mask};
-ghost use Rattle.borrow_analysis.specs.Graph.{graph_input, nodes_ok, rank, triple_ok, triples_bad, check_asked, moved, next_triples, check_graphs};
+ghost use Rattle.borrow_analysis.specs.Graph.{graph_input, input_of, nodes_ok, triple_ok, length_place, triples_bad, next_triples, check_asked, check_graphs};
+ghost use Rattle.borrow_analysis.specs.GraphParts.{NodesBelow, AcceptedGraph};
 
-use crate::triples::{Triple, triple_at};
-use base::width::u8_to_usize;
-use base::{Checked, Found, MAX_LOCALS, MAX_TRIPLES, Refusal, SET_WORDS};
+use crate::triples::{Triples, triple_at};
+use base::{MAX_LOCALS, MAX_TRIPLES, Refusal, SET_WORDS};
 use dataflow_domains::LiveVarState;
 
-// The place of a list of triples with a wrong length.
+// The place of a list of triples with a wrong length: the paper's number.
 const LENGTH_PLACE: usize = 300;
 
-// The first graph of a call and the second, and what is added in check 13 to a place of the second.
-const HERE: u16 = 0;
-
-const NEXT: u16 = 1;
+// What is added to a place of the second graph of a call, in check 12 and in check 13.
+const NEXT_NODES: u16 = 1;
 
 const NEXT_TRIPLES: u16 = 1000;
+
+// A graph as it is handed over: three numbers for each triple.
+#[derive(Clone, Copy)]
+pub struct InputGraph<'a> {
+    pub nodes: u32,
+    pub live: u64,
+    pub triples: &'a [u32],
+}
+
+// A graph that checks 12 and 13 accept.
+#[derive(Clone, Copy)]
+pub struct BorrowGraph<'a> {
+    pub nodes: usize,
+    pub live: LiveVarState,
+    pub triples: Triples<'a>,
+    pub ghost accepted: { AcceptedGraph (graph_input nodes (mask live) triples.numbers.now) },
+}
 
 // The live nodes as a set.
 pub fn live_set(live: u64) -> LiveVarState
@@ -29,159 +45,131 @@ pub fn live_set(live: u64) -> LiveVarState
     LiveVarState { livevars: a }
 }
 
-// Whether every element of a set is below `count`.
-fn all_below(s: LiveVarState, count: usize) -> bool
-    ensures { result ≡ ltb (mask s) (2 ^ count) }
-{
-    let mut left = s;
-    while !left.is_empty() {
-        let next = left.take_lowest();
-        if u8_to_usize(next.local) >= count {
-            return false;
+impl<'a> InputGraph<'a> {
+    // Whether there are few nodes and no live bit above them.
+    #[tactic(auto, unfolding(crate::specs::Graph::nodes_ok))]
+    fn nodes_ok(self) -> bool
+        ensures { result ≡ nodes_ok self.entry.nodes self.entry.live }
+    {
+        self.nodes as usize <= MAX_LOCALS && self.live.checked_shr(self.nodes).unwrap_or(0) == 0
+    }
+
+    // Check 13 of one triple: its nodes are below the count, and it is above the one before it.
+    #[tactic(auto, unfolding(crate::specs::Graph::triple_ok))]
+    fn triple_ok(self, i: usize) -> bool
+        requires { i < length self.triples.now / 3 }
+        ensures { result ≡ triple_ok self.entry.nodes self.entry.triples.now i }
+    {
+        let t = triple_at(self.triples, i);
+        t.parent < self.nodes
+            && t.child < self.nodes
+            && (i == 0 || triple_at(self.triples, i - 1) < t)
+    }
+
+    // The first triple that is wrong.
+    fn first_bad(self) -> Option<usize>
+        ensures first { result ≡ first_bad (length self.entry.triples.now / 3) 0 (triple_ok self.entry.nodes self.entry.triples.now) }
+        ensures within { IfSome result (λ i. i < length self.entry.triples.now / 3) }
+    {
+        for i in 0..self.triples.len() / 3 {
+            if !self.triple_ok(i) {
+                return Some(i);
+            }
         }
-        left = next.rest;
+        None
     }
-    true
-}
 
-// Whether a graph has few nodes and no live bit above them.
-fn nodes_ok(nodes: u32, live: u64) -> bool
-    ensures { result ≡ nodes_ok nodes live }
-{
-    if nodes as usize > MAX_LOCALS {
-        return false;
-    }
-    all_below(live_set(live), nodes as usize)
-}
-
-// Whether triple t stands before triple u.
-fn precedes(t: Triple, u: Triple) -> bool
-    ensures { result ≡ ltb (rank t) (rank u) }
-{
-    if t.parent != u.parent {
-        return t.parent < u.parent;
-    }
-    if t.child != u.child {
-        return t.child < u.child;
-    }
-    t.edge < u.edge
-}
-
-// Check 13 of one triple: its nodes are below the count, and it is above the one before it.
-fn triple_ok(nodes: u32, triples: &[u32], i: usize) -> bool
-    requires { i < length triples.now / 3 }
-    ensures { result ≡ triple_ok nodes triples.now i }
-{
-    let t = triple_at(triples, i);
-    if t.parent >= nodes {
-        return false;
-    }
-    if t.child >= nodes {
-        return false;
-    }
-    if i == 0 {
-        return true;
-    }
-    precedes(triple_at(triples, i - 1), t)
-}
-
-// The first triple that is wrong.
-fn first_bad(nodes: u32, triples: &[u32]) -> Found
-    ensures { result ≡ found_of (first_bad (length triples.now / 3) 0 (triple_ok nodes triples.now)) }
-{
-    let n = triples.len() / 3;
-    let mut i = 0;
-    while i < n {
-        if !triple_ok(nodes, triples, i) {
-            return Found::At(i);
+    // The place at which check 13 fails.
+    #[tactic(auto, unfolding(crate::specs::Graph::triples_bad))]
+    fn triples_bad(self) -> Option<usize>
+        ensures first { result ≡ triples_bad self.entry.nodes self.entry.triples.now }
+        ensures within { IfSome result (λ p. p ≤ length_place) }
+    {
+        let n = self.triples.len();
+        if n % 3 == 0 && n / 3 <= MAX_TRIPLES {
+            return self.first_bad();
         }
-        i += 1;
+        Some(LENGTH_PLACE)
     }
-    Found::Nothing
-}
 
-// The place at which check 13 fails.
-fn triples_bad(nodes: u32, triples: &[u32]) -> Found
-    ensures { result ≡ found_of (triples_bad nodes triples.now) }
-{
-    let n = triples.len();
-    if n % 3 != 0 {
-        return Found::At(LENGTH_PLACE);
+    // 12.
+    fn check_nodes(self, by: u16) -> Result<(), Refusal>
+        ensures checked { result ≡ check_whole (Refusal.Nodes by) (nodes_ok self.entry.nodes self.entry.live) }
+        ensures accepted { OnOk result (nodes_ok self.entry.nodes self.entry.live ≡ true) }
+    {
+        if self.nodes_ok() {
+            return Ok(());
+        }
+        Err(Refusal::Nodes(by))
     }
-    if n / 3 > MAX_TRIPLES {
-        return Found::At(LENGTH_PLACE);
-    }
-    first_bad(nodes, triples)
-}
 
-// 12 of one graph.
-fn check_nodes(nodes: u32, live: u64, graph: u16) -> Checked
-    ensures { verdict_of result ≡ check 12 (moved graph (whole (nodes_ok nodes live))) }
-{
-    if nodes_ok(nodes, live) {
-        return Checked::Accepted;
+    // 13.
+    fn check_triples(self, by: u16) -> Result<(), Refusal>
+        requires { by ≤ next_triples }
+        ensures checked { result ≡ check (λ p. Refusal.Triples (by + p)) (triples_bad self.entry.nodes self.entry.triples.now) }
+        ensures accepted { OnOk result (triples_bad self.entry.nodes self.entry.triples.now ≡ None) }
+    {
+        match self.triples_bad() {
+            Some(p) => Err(Refusal::Triples(by + p as u16)),
+            None => Ok(()),
+        }
     }
-    Checked::Refused(Refusal::Nodes(graph))
-}
 
-// 13 of one graph.
-fn check_triples(nodes: u32, triples: &[u32], graph: u16) -> Checked
-    requires { graph ≤ 1 }
-    ensures { verdict_of result ≡ check 13 (moved (next_triples * graph) (triples_bad nodes triples.now)) }
-{
-    match triples_bad(nodes, triples) {
-        Found::At(p) => Checked::Refused(Refusal::Triples(NEXT_TRIPLES * graph + p as u16)),
-        Found::Nothing => Checked::Accepted,
+    // The graph, where both accept it.
+    fn accepted(self) -> BorrowGraph<'a>
+        requires nodes { nodes_ok self.nodes self.live ≡ true }
+        requires triples { triples_bad self.nodes self.triples.now ≡ None }
+        ensures { graph_input result.nodes (mask result.live) result.triples.numbers.now ≡ input_of self.entry }
+    {
+        BorrowGraph {
+            nodes: self.nodes as usize,
+            live: live_set(self.live),
+            triples: Triples {
+                numbers: self.triples,
+            },
+        }
     }
 }
 
 // 14.
-fn check_node(nodes: u32, node: u32) -> Checked
-    ensures { verdict_of result ≡ check 14 (whole (ltb node nodes)) }
+fn check_node(nodes: u32, node: u32) -> Result<(), Refusal>
+    ensures checked { result ≡ check_whole Refusal.AskedNode (ltb node nodes) }
+    ensures accepted { OnOk result (node < nodes) }
 {
     if node < nodes {
-        return Checked::Accepted;
+        return Ok(());
     }
-    Checked::Refused(Refusal::AskedNode)
+    Err(Refusal::AskedNode)
 }
 
-// 12, 13 and 14.
-pub fn check_asked(nodes: u32, live: u64, triples: &[u32], node: u32) -> Checked
-    ensures { verdict_of result ≡ check_asked (graph_input nodes live triples.now) node }
+// 12, 13 and 14: the graph that they accept.
+#[tactic(auto, unfolding(crate::specs::Graph::check_asked))]
+pub fn check_asked<'a>(graph: InputGraph<'a>, node: u32) -> Result<BorrowGraph<'a>, Refusal>
+    ensures accepted { OnOk result (check_asked (input_of graph.entry) node ≡ Accepted) }
+    ensures same { IfOk result (λ g. graph_input g.nodes (mask g.live) g.triples.numbers.now ≡ input_of graph.entry) }
+    ensures asked { IfOk result (λ g. node < g.nodes) }
+    ensures refused { IfErr result (λ e. check_asked (input_of graph.entry) node ≡ Err e) }
 {
-    let few = check_nodes(nodes, live, HERE);
-    let Checked::Accepted = few else {
-        return few;
-    };
-    let inside = check_triples(nodes, triples, HERE);
-    let Checked::Accepted = inside else {
-        return inside;
-    };
-    check_node(nodes, node)
+    graph.check_nodes(0)?;
+    graph.check_triples(0)?;
+    check_node(graph.nodes, node)?;
+    Ok(graph.accepted())
 }
 
-// 12 of both graphs, then 13 of both.
-pub fn check_graphs(
-    nodes: u32,
-    live: u64,
-    triples: &[u32],
-    next_nodes: u32,
-    next_live: u64,
-    next_triples: &[u32],
-) -> Checked
-    ensures { verdict_of result ≡ check_graphs (graph_input nodes live triples.now) (graph_input next_nodes next_live next_triples.now) }
+// 12 of both graphs, then 13 of both: the graphs that they accept.
+#[tactic(auto, unfolding(crate::specs::Graph::check_graphs))]
+pub fn check_graphs<'a, 'b>(
+    here: InputGraph<'a>,
+    next: InputGraph<'b>,
+) -> Result<(BorrowGraph<'a>, BorrowGraph<'b>), Refusal>
+    ensures accepted { OnOk result (check_graphs (input_of here.entry) (input_of next.entry) ≡ Accepted) }
+    ensures same { IfOk result (λ g. graph_input g.0.nodes (mask g.0.live) g.0.triples.numbers.now ≡ input_of here.entry) }
+    ensures same_next { IfOk result (λ g. graph_input g.1.nodes (mask g.1.live) g.1.triples.numbers.now ≡ input_of next.entry) }
+    ensures refused { IfErr result (λ e. check_graphs (input_of here.entry) (input_of next.entry) ≡ Err e) }
 {
-    let here_few = check_nodes(nodes, live, HERE);
-    let Checked::Accepted = here_few else {
-        return here_few;
-    };
-    let next_few = check_nodes(next_nodes, next_live, NEXT);
-    let Checked::Accepted = next_few else {
-        return next_few;
-    };
-    let here_inside = check_triples(nodes, triples, HERE);
-    let Checked::Accepted = here_inside else {
-        return here_inside;
-    };
-    check_triples(next_nodes, next_triples, NEXT)
+    here.check_nodes(0)?;
+    next.check_nodes(NEXT_NODES)?;
+    here.check_triples(0)?;
+    next.check_triples(NEXT_TRIPLES)?;
+    Ok((here.accepted(), next.accepted()))
 }

@@ -5,12 +5,10 @@ ghost use Rattle.dataflow_domains.specs.Sets.{mask};
 ghost use Rattle.borrow_analysis.specs.Graph.{triple_at, triples_of};
 ghost use Rattle.borrow_analysis.specs.GraphParts.{NodesBelow, ManyIncoming};
 
-use base::MAX_LOCALS;
-use base::width::u8_to_usize;
 use dataflow_domains::LiveVarState;
 
-// The numbers of a triple.
-#[derive(Clone, Copy)]
+// The numbers of a triple. Triples are ordered by the first that differs.
+#[derive(Clone, Copy, PartialEq, Eq, PartialOrd, Ord)]
 pub struct Triple {
     pub parent: u32,
     pub child: u32,
@@ -30,61 +28,53 @@ pub fn triple_at(triples: &[u32], i: usize) -> Triple
     }
 }
 
-// The parent of triple i of an accepted graph.
-pub fn parent_at(triples: &[u32], i: usize) -> u8
-    requires { NodesBelow max_locals triples.now × (i < length triples.now / 3) }
-    ensures { (result ≡ get_or triples.now (3 * i) 0) × (result < max_locals) }
-{
-    triples[3 * i] as u8
-}
-
-// Its child.
-pub fn child_at(triples: &[u32], i: usize) -> u8
-    requires { NodesBelow max_locals triples.now × (i < length triples.now / 3) }
-    ensures { (result ≡ get_or triples.now (3 * i + 1) 0) × (result < max_locals) }
-{
-    triples[3 * i + 1] as u8
-}
-
-// Its place in the list, its parent and its child.
+// Triples whose nodes fit into a set.
 #[derive(Clone, Copy)]
-pub struct Lead {
-    pub place: usize,
-    pub parent: usize,
-    pub child: u8,
+pub struct Triples<'a> {
+    pub numbers: &'a [u32],
+    ghost inside: { NodesBelow max_locals numbers.now },
 }
 
-pub fn lead_at(triples: &[u32], i: usize) -> Lead
-    requires { NodesBelow max_locals triples.now × (i < length triples.now / 3) }
-    ensures { (result.place ≡ i) × (result.parent ≡ get_or triples.now (3 * i) 0) × (result.child ≡ get_or triples.now (3 * i + 1) 0) × (result.parent < max_locals) × (result.child < max_locals) }
-{
-    Lead {
-        place: i,
-        parent: u8_to_usize(parent_at(triples, i)),
-        child: child_at(triples, i),
+impl<'a> Triples<'a> {
+    // How many there are.
+    pub fn count(self) -> usize
+        ensures { result ≡ length self.entry.numbers.now / 3 }
+    {
+        self.numbers.len() / 3
     }
-}
 
-// The nodes to which more than one triple leads.
-pub fn many_in(triples: &[u32]) -> LiveVarState
-    requires { NodesBelow max_locals triples.now }
-    ensures { ManyIncoming (triples_of triples.now) (mask result) }
-{
-    let n = triples.len() / 3;
-    // For each node the place of the last triple that leads to it, and n where none does.
-    let mut last = [n; MAX_LOCALS];
-    let mut many = LiveVarState::empty();
-    let mut i = 0;
-    while i < n {
-        let lead = lead_at(triples, i);
-        let mark = lead.place;
-        let child = lead.child;
-        let at = u8_to_usize(child);
-        if last[at] < mark {
-            many = many.insert(child);
+    // The parent of triple i.
+    pub fn parent_at(self, i: usize) -> u8
+        requires { i < length self.numbers.now / 3 }
+        ensures value { result ≡ get_or self.entry.numbers.now (3 * i) 0 }
+        ensures low { result < max_locals }
+    {
+        self.numbers[3 * i] as u8
+    }
+
+    // Its child.
+    pub fn child_at(self, i: usize) -> u8
+        requires { i < length self.numbers.now / 3 }
+        ensures value { result ≡ get_or self.entry.numbers.now (3 * i + 1) 0 }
+        ensures low { result < max_locals }
+    {
+        self.numbers[3 * i + 1] as u8
+    }
+
+    // The nodes to which more than one leads.
+    pub fn many_in(self) -> LiveVarState
+        ensures { ManyIncoming (triples_of self.entry.numbers.now) (mask result) }
+    {
+        let mut once = LiveVarState::empty();
+        let mut many = LiveVarState::empty();
+        for i in 0..self.count() {
+            let child = self.child_at(i);
+            let again = once.has(child);
+            if again {
+                many = many.insert(child);
+            }
+            once = once.insert(child);
         }
-        last[at] = mark;
-        i += 1;
+        many
     }
-    many
 }

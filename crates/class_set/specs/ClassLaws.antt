@@ -1,13 +1,14 @@
 -- The checks of a class set one after the other, what live replies to a sheet with its own bytes lent, and the outputs sheet by sheet. Assumes nothing.
-use Rattle.std.specs.Prelude.{◌≡◌, refl, ◌≢◌, Bool, true, false, cond, ◌&&◌, List, [], ◌∷◌, ◌++◌, ℕ, suc, ◌+◌, ◌-◌, ◌*◌, ◌%◌, ◌≤◌, ◌<◌, eqb, leb, length, take, drop}
-use Rattle.std.proofs.Common.{sym, ◌∙◌, subst, add-one, arith, eq-eqb, ne_eqb, le-leb, leb-true, length-take, length-drop, ap, ap₂}
-use Rattle.std.proofs.Math.Bool.{and-false}
+use Rattle.base.specs.declared.Refusal.{Refusal}
+use Rattle.base.specs.declared.Refusal.TheVariants.{Length, OutputShort, FirstBlock, TooManySheets}
+use Rattle.std.specs.Prelude.{◌≡◌, refl, true, false, ◌&&◌, List, ◌++◌, ℕ, suc, ◌+◌, ◌-◌, ◌*◌, ◌%◌, ◌≤◌, ◌<◌, eqb, leb, length, take, drop, Result, Ok, Err}
+use Rattle.std.proofs.Common.{sym, ◌∙◌, subst, add-one, arith, le-leb, leb-true, length-take, length-drop, ap, ap₂}
 use Rattle.std.proofs.lemmas.Bool.{lt-leb}
 use Rattle.base.specs.Sizes.{block_bytes, pair_bytes, max_sheets, slot_bytes, answer_numbers}
 use Rattle.base.specs.Lists.{joins}
-use Rattle.base.specs.Bytes.{part, u16_at}
+use Rattle.base.specs.Bytes.{part}
 use Rattle.base.specs.JoinLaws.{joins_long, piece_rest, piece_more}
-use Rattle.base.specs.Refusals.{Verdict, Accepted, Refused, ◌then◌, Reply, No, Done, Result, result_of, output_after, lends}
+use Rattle.base.specs.Refusals.{Verdict, Accepted, ◌then◌, lends, Reply, Done, answer_of, output_after}
 use Rattle.base.specs.RefusalLaws.{then_goes, then_stops, accepted_whole, refused_whole, passed, passed_whole, lends_short, lends_enough}
 use Rattle.base.specs.ReplyLaws.{reply_refused, reply_done}
 use Rattle.base.specs.WriteLaws.{length_kept}
@@ -17,70 +18,47 @@ use Rattle.sheet.specs.ValidLaws.{accepted_valid}
 use Rattle.livevar_analysis.specs.Analysis.{analyze, live_bytes, live_reply}
 use Rattle.livevar_analysis.specs.LiveCallLaws.{live_refused, live_done_lem, live_length}
 use Rattle.class_set.specs.CutLaws.{first_from, start_first, start_next, sheet_part}
+use Rattle.class_set.specs.Room.{ClassRoom}
 use Rattle.class_set.specs.ClassSet.{starts_at, sheets_in, start_of, sheet_at, check_class, alone_at, slot_after, numbers_of, sets_reply, answers_reply}
 
 -- ---- the checks of the whole
 
--- 1
-pub bad_length : (n : ℕ) → n % block_bytes ≢ 0 → leb 1 n && eqb (n % block_bytes) 0 ≡ false
-bad_length n h = ap (λ (b : Bool). leb 1 n && b) (ne_eqb _ _ h) ∙ and-false (leb 1 n)
-
-pub no_length : (n : ℕ) → n ≡ 0 → leb 1 n && eqb (n % block_bytes) 0 ≡ false
-no_length n e = ap (λ (b : Bool). b && eqb (n % block_bytes) 0) (lt-leb 1 n (omega arith))
-
-pub good_length : (n : ℕ) → n ≢ 0 → n % block_bytes ≡ 0 → leb 1 n && eqb (n % block_bytes) 0 ≡ true
-good_length n h e = ap₂ ◌&&◌ (le-leb 1 n (omega arith)) (eq-eqb _ _ e)
-
--- 16
-pub first_zero : (s : List ℕ) {n : ℕ} → n ≡ u16_at s 0 → n ≡ 0 → starts_at s 0 ≡ true
-unfolding starts_at
-first_zero s e z = eq-eqb (u16_at s 0) 0 (sym e ∙ z)
-
-pub first_other : (s : List ℕ) {n : ℕ} → n ≡ u16_at s 0 → n ≢ 0 → starts_at s 0 ≡ false
-unfolding starts_at
-first_other s e h = ne_eqb (u16_at s 0) 0 (λ z. h (e ∙ z))
-
 module _ (s : List ℕ) (lent numbers : ℕ) where
-  pub class_length : leb 1 (length s) && eqb (length s % block_bytes) 0 ≡ false → check_class s lent numbers ≡ Refused 1 0
+  pub class_length : leb 1 (length s) && eqb (length s % block_bytes) 0 ≡ false → check_class s lent numbers ≡ Err Length
   unfolding check_class
-  class_length e = then_stops _ (sym (refused_whole 1 e))
+  class_length e = then_stops _ (sym (refused_whole Length e))
 
   module _ (whole : leb 1 (length s) && eqb (length s % block_bytes) 0 ≡ true) where
-    pub class_first : starts_at s 0 ≡ false → check_class s lent numbers ≡ Refused 16 0
+    pub class_first : starts_at s 0 ≡ false → check_class s lent numbers ≡ Err FirstBlock
     unfolding check_class
-    class_first e = then_goes _ (sym (accepted_whole 1 whole)) ∙ then_stops _ (sym (refused_whole 16 e))
+    class_first e = then_goes _ (sym (accepted_whole Length whole)) ∙ then_stops _ (sym (refused_whole FirstBlock e))
 
     module _ (first : starts_at s 0 ≡ true) where
-      pub class_many : max_sheets < sheets_in s → check_class s lent numbers ≡ Refused 17 0
+      pub class_many : max_sheets < sheets_in s → check_class s lent numbers ≡ Err TooManySheets
       unfolding check_class
-      class_many h = then_goes _ (sym (accepted_whole 1 whole)) ∙ then_goes _ (sym (accepted_whole 16 first)) ∙ then_stops _ (sym (refused_whole 17 (lt-leb _ _ h)))
+      class_many h = then_goes _ (sym (accepted_whole Length whole)) ∙ then_goes _ (sym (accepted_whole FirstBlock first)) ∙ then_stops _ (sym (refused_whole TooManySheets (lt-leb _ _ h)))
 
       module _ (few : sheets_in s ≤ max_sheets) where
         open_nine : check_class s lent numbers ≡ (lends lent (slot_bytes * sheets_in s) then lends numbers (answer_numbers * sheets_in s))
         unfolding check_class
-        open_nine = then_goes _ (sym (accepted_whole 1 whole)) ∙ then_goes _ (sym (accepted_whole 16 first)) ∙ then_goes _ (sym (accepted_whole 17 (le-leb _ _ few)))
+        open_nine = then_goes _ (sym (accepted_whole Length whole)) ∙ then_goes _ (sym (accepted_whole FirstBlock first)) ∙ then_goes _ (sym (accepted_whole TooManySheets (le-leb _ _ few)))
 
-        pub class_short : lent < slot_bytes * sheets_in s → check_class s lent numbers ≡ Refused 9 0
+        pub class_short : lent < slot_bytes * sheets_in s → check_class s lent numbers ≡ Err OutputShort
         class_short h = open_nine ∙ then_stops _ (lends_short h)
 
-        pub class_answers : slot_bytes * sheets_in s ≤ lent → numbers < answer_numbers * sheets_in s → check_class s lent numbers ≡ Refused 9 0
+        pub class_answers : slot_bytes * sheets_in s ≤ lent → numbers < answer_numbers * sheets_in s → check_class s lent numbers ≡ Err OutputShort
         class_answers h g = open_nine ∙ then_goes _ (lends_enough h) ∙ lends_short g
 
         pub class_passes : slot_bytes * sheets_in s ≤ lent → answer_numbers * sheets_in s ≤ numbers → check_class s lent numbers ≡ Accepted
         class_passes h g = open_nine ∙ then_goes _ (lends_enough h) ∙ lends_enough g
 
--- what they leave: few sheets, and room for each
-pub record ClassRoom (s : List ℕ) (lent numbers : ℕ) : Type 0 where
-  pub few : sheets_in s ≤ max_sheets
-  pub sets : slot_bytes * sheets_in s ≤ lent
-  pub answers : answer_numbers * sheets_in s ≤ numbers
-
+-- what they leave
 pub class_room : (s : List ℕ) (lent numbers : ℕ) → check_class s lent numbers ≡ Accepted → ClassRoom s lent numbers
-unfolding check_class lends
+unfolding check_class
 class_room s lent numbers e =
     let many = passed _ _ (passed _ _ (passed _ _ e).next).next in
     let nine = passed _ _ many.next in
-    record { few = leb-true _ _ (passed_whole 17 _ many.first); sets = leb-true _ _ (passed_whole 9 _ nine.first); answers = leb-true _ _ (passed_whole 9 _ nine.next) }
+    record { few = leb-true _ _ (passed_whole TooManySheets _ many.first); sets = leb-true _ _ (passed_whole OutputShort _ nine.first); answers = leb-true _ _ (passed_whole OutputShort _ nine.next) }
 
 -- ---- live, where a sheet's own bytes are lent
 
@@ -97,33 +75,28 @@ module _ (x : List ℕ) (lent : ℕ) (room : slot_bytes ≤ lent) where
   alone_done e = live_done_lem x lent e (omega (arith, slot_enough x e))
 
   -- refused by the checks, or done: never 9
-  pub by_checks : (P : Reply → Type 0) → ((num place : ℕ) → check_sheet x ≡ Refused num place → P (No num place)) → (check_sheet x ≡ Accepted → P (live_done x)) → P (live_reply x lent)
+  pub by_checks : (P : Reply → Type 0) → ((e : Refusal) → check_sheet x ≡ Err e → P (Err e)) → (check_sheet x ≡ Accepted → P (live_done x)) → P (live_reply x lent)
   by_checks P refused accepted = go (check_sheet x) refl
     where
       go : (v : Verdict) → check_sheet x ≡ v → P (live_reply x lent)
-      go Accepted e = subst P (sym (alone_done e)) (accepted e)
-      go (Refused num place) e = subst P (sym (live_refused x lent e)) (refused num place e)
+      go (Ok tt) q = subst P (sym (alone_done q)) (accepted q)
+      go (Err e) q = subst P (sym (live_refused x lent q)) (refused e q)
 
 -- it keeps the length of what is lent
 pub slot_kept : (x out : List ℕ) → length out ≡ slot_bytes → length (output_after (live_reply x slot_bytes) out) ≡ slot_bytes
-unfolding output_after
 slot_kept x out e =
-    by_checks x slot_bytes (omega arith) (λ r. length (output_after r out) ≡ slot_bytes) (λ num place q. e)
+    by_checks x slot_bytes (omega arith) (λ r. length (output_after r out) ≡ slot_bytes) (λ _ _. e)
     (λ q. let size = live_length x q in
     length_kept (live_bytes (analyze (code_of x) (locals_of x)).info) out (length (live_bytes (analyze (code_of x) (locals_of x)).info)) refl (omega (arith, slot_enough x q)) ∙ e)
 
 -- ---- sheet by sheet
 
 abbrev pub numbers_at : List ℕ → ℕ → List ℕ
-numbers_at s k = numbers_of (result_of (alone_at s k))
+numbers_at s k = numbers_of (answer_of (alone_at s k))
 
-pub numbers_long : (r : Result) → length (numbers_of r) ≡ answer_numbers
-unfolding numbers_of
-numbers_long r = three (eqb r.number 0)
-  where
-    three : (b : Bool) → length {A = ℕ} (cond b (0 ∷ 0 ∷ r.value ∷ []) (r.number ∷ r.value ∷ 0 ∷ [])) ≡ answer_numbers
-    three true = refl
-    three false = refl
+pub numbers_long : (a : Result ℕ Refusal) → length (numbers_of a) ≡ answer_numbers
+numbers_long (Ok _) = refl
+numbers_long (Err _) = refl
 
 module _ (s sets : List ℕ) (m : ℕ) (room : slot_bytes * m ≤ length sets) where
   pub slot_lent : (k : ℕ) → k < m → length (part sets (slot_bytes * k) slot_bytes) ≡ slot_bytes
@@ -132,15 +105,6 @@ module _ (s sets : List ℕ) (m : ℕ) (room : slot_bytes * m ≤ length sets) w
   pub slot_long : (k : ℕ) → k < m → length (slot_after s sets k) ≡ slot_bytes
   unfolding slot_after
   slot_long k h = slot_kept (sheet_at s k) (part sets (slot_bytes * k) slot_bytes) (slot_lent k h)
-
--- the three numbers of what the code's call live answered
-pub numbers_accepted : {r : Result} {v : ℕ} → record { number = 0; value = v } ≡ r → 0 ∷ 0 ∷ v ∷ [] ≡ numbers_of r
-unfolding numbers_of
-numbers_accepted e = ap numbers_of e
-
-pub numbers_refused : {r : Result} {num place : ℕ} → num ≢ 0 → record { number = num; value = place } ≡ r → num ∷ place ∷ 0 ∷ [] ≡ numbers_of r
-unfolding numbers_of
-numbers_refused {num = num} {place = place} h e = sym (ap (λ (b : Bool). cond b (0 ∷ 0 ∷ place ∷ []) (num ∷ place ∷ 0 ∷ [])) (ne_eqb num 0 h)) ∙ ap numbers_of e
 
 -- ---- one sheet a turn, the first k answered; the next one starts at block `start`
 
@@ -183,7 +147,7 @@ module _ (s sets₀ answers₀ sets answers : List ℕ) (start next k : ℕ) (fe
   lent_size : length lent ≡ slot_bytes
   lent_size = ap length lent_is ∙ slot_lent s sets₀ (sheets_in s) room k few
 
-  pub answered_more : (new numbers : List ℕ) → new ≡ output_after (live_reply x (length lent)) lent → numbers ≡ numbers_of (result_of (live_reply x (length lent)))
+  pub answered_more : (new numbers : List ℕ) → new ≡ output_after (live_reply x (length lent)) lent → numbers ≡ numbers_of (answer_of (live_reply x (length lent)))
       → Answered s sets₀ answers₀ (take (slot_bytes * k) sets ++ (new ++ drop (slot_bytes * k + slot_bytes - slot_bytes * k) (drop (slot_bytes * k) sets)))
       (take (answer_numbers * k) answers ++ (numbers ++ drop (answer_numbers * k + answer_numbers - answer_numbers * k) (drop (answer_numbers * k) answers))) next (k + 1)
   unfolding slot_after
@@ -192,32 +156,31 @@ module _ (s sets₀ answers₀ sets answers : List ℕ) (start next k : ℕ) (fe
       record {
         begins = after ∙ ap (start_of s) (sym (add-one k));
         written = piece_more slot_bytes (slot_after s sets₀) sets₀ k slots sets before.written new (e ∙ ap₂ output_after reply_is lent_is);
-        numbered = piece_more answer_numbers (numbers_at s) answers₀ k (λ j h. numbers_long (result_of (alone_at s j))) answers before.numbered numbers (q ∙ ap (λ (r : Reply). numbers_of (result_of r)) reply_is);
+        numbered = piece_more answer_numbers (numbers_at s) answers₀ k (λ j h. numbers_long (answer_of (alone_at s j))) answers before.numbered numbers (q ∙ ap (λ (r : Reply). numbers_of (answer_of r)) reply_is);
       }
 
 -- ---- the replies
 
-module _ (s sets answers : List ℕ) where
-  module _ {num place : ℕ} (e : check_class s (length sets) (length answers) ≡ Refused num place) where
-    pub sets_refused : sets_reply s sets (length answers) ≡ No num place
-    unfolding sets_reply
-    sets_refused = reply_refused _ e
+module _ (s sets answers : List ℕ) {e : Refusal} (q : check_class s (length sets) (length answers) ≡ Err e) where
+  pub sets_refused : sets_reply s sets (length answers) ≡ Err e
+  unfolding sets_reply
+  sets_refused = reply_refused _ q
 
-    pub answers_refused : answers_reply s (length sets) (length answers) ≡ No num place
-    unfolding answers_reply
-    answers_refused = reply_refused _ e
+  pub answers_refused : answers_reply s (length sets) (length answers) ≡ Err e
+  unfolding answers_reply
+  answers_refused = reply_refused _ q
 
-  module _ (e : check_class s (length sets) (length answers) ≡ Accepted) where
-    pub sets_done : sets_reply s sets (length answers) ≡ Done (sheets_in s) (joins (sheets_in s) (slot_after s sets))
-    unfolding sets_reply
-    sets_done = reply_done _ e
+module _ (s sets answers : List ℕ) (e : check_class s (length sets) (length answers) ≡ Accepted) where
+  pub sets_done : sets_reply s sets (length answers) ≡ Done (sheets_in s) (joins (sheets_in s) (slot_after s sets))
+  unfolding sets_reply
+  sets_done = reply_done _ e
 
-    pub answers_done : answers_reply s (length sets) (length answers) ≡ Done (sheets_in s) (joins (sheets_in s) (numbers_at s))
-    unfolding answers_reply
-    answers_done = reply_done _ e
+  pub answers_done : answers_reply s (length sets) (length answers) ≡ Done (sheets_in s) (joins (sheets_in s) (numbers_at s))
+  unfolding answers_reply
+  answers_done = reply_done _ e
 
-    pub sets_long : length (joins (sheets_in s) (slot_after s sets)) ≡ slot_bytes * sheets_in s
-    sets_long = joins_long slot_bytes (slot_after s sets) (sheets_in s) (slot_long s sets (sheets_in s) (class_room s (length sets) (length answers) e).sets)
+  pub sets_long : length (joins (sheets_in s) (slot_after s sets)) ≡ slot_bytes * sheets_in s
+  sets_long = joins_long slot_bytes (slot_after s sets) (sheets_in s) (slot_long s sets (sheets_in s) (class_room s (length sets) (length answers) e).sets)
 
-    pub answers_long : length (joins (sheets_in s) (numbers_at s)) ≡ answer_numbers * sheets_in s
-    answers_long = joins_long answer_numbers (numbers_at s) (sheets_in s) (λ k h. numbers_long (result_of (alone_at s k)))
+  pub answers_long : length (joins (sheets_in s) (numbers_at s)) ≡ answer_numbers * sheets_in s
+  answers_long = joins_long answer_numbers (numbers_at s) (sheets_in s) (λ k h. numbers_long (answer_of (alone_at s k)))

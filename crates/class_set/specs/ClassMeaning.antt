@@ -1,9 +1,10 @@
 -- What a class set that is not refused means for each of its sheets, byte by byte and number by number; and which sheets are cut as they were laid. Assumes nothing.
-use Rattle.std.specs.Prelude.{◌≡◌, true, false, List, ℕ, ◌+◌, ◌*◌, ◌≤◌, ◌<◌, length, get_or}
+use Rattle.std.specs.Prelude.{◌≡◌, true, false, List, ℕ, ◌+◌, ◌*◌, ◌≤◌, ◌<◌, length, get_or, Err}
 use Rattle.base.specs.Sizes.{pair_bytes, block_bytes, slot_bytes, answer_numbers}
 use Rattle.base.specs.Lists.{joins}
 use Rattle.base.specs.Bytes.{part}
-use Rattle.base.specs.Refusals.{Accepted, Refused, result_of, output_after}
+use Rattle.base.specs.declared.Refusal.{Refusal}
+use Rattle.base.specs.Refusals.{Accepted, number_of, place_of, answer_of, output_after}
 use Rattle.sheet.specs.Layout.{code_of}
 use Rattle.sheet.specs.Checks.{check_sheet}
 use Rattle.livevar_analysis.specs.Analysis.{live_reply}
@@ -32,9 +33,9 @@ byte_at sets k i = get_or sets (slot_bytes * k + i) 0
 -- ---- one sheet: `sets` is what was lent, sets' and answers' what the call leaves
 
 -- sheet k is refused: number and place, count 0, and its bytes as they were
-pub record RefusedAt (num p k : ℕ) (sets sets' answers' : List ℕ) : Type 0 where
-  pub number : number_at answers' k ≡ num
-  pub place : place_at answers' k ≡ p
+pub record RefusedAt (e : Refusal) (k : ℕ) (sets sets' answers' : List ℕ) : Type 0 where
+  pub number : number_at answers' k ≡ number_of e
+  pub place : place_at answers' k ≡ place_of e
   pub count : count_at answers' k ≡ 0
   pub kept : (i : ℕ) → i < slot_bytes → byte_at sets' k i ≡ byte_at sets k i
 
@@ -51,12 +52,12 @@ pub record AcceptedAt (x : List ℕ) (k : ℕ) (sets sets' answers' : List ℕ) 
 -- what s, which is not refused, means
 pub record ClassMeaning (s sets answers sets' answers' : List ℕ) : Type 0 where
   -- each sheet's numbers are those that it gets alone, however many bytes are lent to it, if they are no fewer than its own; 9 is never among them
-  pub alone_numbers : (k lent : ℕ) → k < sheets_in s → slot_bytes ≤ lent → part answers' (answer_numbers * k) answer_numbers ≡ numbers_of (result_of (live_reply (sheet_at s k) lent))
+  pub alone_numbers : (k lent : ℕ) → k < sheets_in s → slot_bytes ≤ lent → part answers' (answer_numbers * k) answer_numbers ≡ numbers_of (answer_of (live_reply (sheet_at s k) lent))
   pub never_short : (k : ℕ) → k < sheets_in s → number_at answers' k ≡ 9 → ⊥
   -- its bytes are what the call live alone leaves in them
   pub alone_sets : (k : ℕ) → k < sheets_in s → slot_of sets' k ≡ output_after (live_reply (sheet_at s k) slot_bytes) (slot_of sets k)
   -- each is refused or accepted by its own checks, whatever the others are
-  pub refused : (k num place : ℕ) → k < sheets_in s → check_sheet (sheet_at s k) ≡ Refused num place → RefusedAt num place k sets sets' answers'
+  pub refused : (k : ℕ) (e : Refusal) → k < sheets_in s → check_sheet (sheet_at s k) ≡ Err e → RefusedAt e k sets sets' answers'
   pub accepted : (k : ℕ) → k < sheets_in s → check_sheet (sheet_at s k) ≡ Accepted → AcceptedAt (sheet_at s k) k sets sets' answers'
   -- behind the last sheet's, bytes and numbers are as they were
   pub sets_behind : (i : ℕ) → slot_bytes * sheets_in s ≤ i → get_or sets' i 0 ≡ get_or sets i 0

@@ -1,12 +1,13 @@
 -- What the outputs of a class set say of each sheet; the same sheet at the same place of two class sets. Assumes nothing.
-use Rattle.std.specs.Prelude.{◌≡◌, refl, ℕ, ◌+◌, ◌*◌, ◌≤◌, ◌<◌, length, drop, List, [], ◌∷◌, ◌++◌, get_or}
+use Rattle.std.specs.Prelude.{◌≡◌, refl, ℕ, ◌+◌, ◌*◌, ◌≤◌, ◌<◌, length, drop, List, [], ◌∷◌, ◌++◌, get_or, Ok, Err}
 use Rattle.std.proofs.Common.{sym, ◌∙◌, subst, add-zero, arith, get_or-take, get_or-drop, ap}
 use Rattle.std.proofs.Math.ListN.{get_or-append}
 use Rattle.base.specs.Sizes.{pair_bytes, slot_bytes, answer_numbers}
 use Rattle.base.specs.Lists.{joins}
 use Rattle.base.specs.Bytes.{part}
 use Rattle.base.specs.JoinLaws.{get_d_rest, piece_at, piece_behind}
-use Rattle.base.specs.Refusals.{Accepted, Refused, Reply, result_of, output_after}
+use Rattle.base.specs.declared.Refusal.{Refusal}
+use Rattle.base.specs.Refusals.{Accepted, Reply, number_of, place_of, answer_of, output_after}
 use Rattle.base.specs.ReplyLaws.{done_result, done_output}
 use Rattle.sheet.specs.Layout.{code_of, locals_of}
 use Rattle.sheet.specs.Checks.{check_sheet}
@@ -17,12 +18,12 @@ use Rattle.livevar_analysis.specs.LiveCallLaws.{live_refused, live_length, least
 use Rattle.livevar_analysis.specs.Term3Laws.{term3}
 use Rattle.class_set.specs.ClassSet.{sheets_in, sheet_at, check_class, alone_at, slot_after, numbers_of, sets_reply, answers_reply}
 use Rattle.class_set.specs.ClassMeaning.{number_at, slot_of, byte_at, RefusedAt, AcceptedAt, ClassMeaning, SameAnswer}
-use Rattle.class_set.specs.ClassLaws.{class_room, slot_enough, alone_done, by_checks, numbers_at, numbers_long, numbers_accepted, numbers_refused, slot_long, sets_done, answers_done, sets_long, answers_long}
+use Rattle.class_set.specs.ClassLaws.{class_room, slot_enough, alone_done, by_checks, numbers_at, numbers_long, slot_long, sets_done, answers_done, sets_long, answers_long}
 
 -- a sheet's reply does not depend on how much is lent, if it is no less than its own bytes
 alone_same : (x : List ℕ) (lent : ℕ) → slot_bytes ≤ lent → live_reply x slot_bytes ≡ live_reply x lent
 alone_same x lent h =
-    by_checks x slot_bytes (omega arith) (λ r. r ≡ live_reply x lent) (λ num place e. sym (live_refused x lent e)) (λ e. sym (alone_done x lent h e))
+    by_checks x slot_bytes (omega arith) (λ r. r ≡ live_reply x lent) (λ _ q. sym (live_refused x lent q)) (λ e. sym (alone_done x lent h e))
 
 module _ (s sets answers : List ℕ) (accepted : check_class s (length sets) (length answers) ≡ Accepted) where
   -- ---- the outputs, piece by piece
@@ -47,7 +48,7 @@ module _ (s sets answers : List ℕ) (accepted : check_class s (length sets) (le
     slot_is = piece_at slot_bytes (slot_after s sets) (sheets_in s) k _ h slots
 
     numbers_are : part answers_now (answer_numbers * k) answer_numbers ≡ numbers_at s k
-    numbers_are = piece_at answer_numbers (numbers_at s) (sheets_in s) k _ h (λ j l. numbers_long (result_of (alone_at s j)))
+    numbers_are = piece_at answer_numbers (numbers_at s) (sheets_in s) k _ h (λ j l. numbers_long (answer_of (alone_at s j)))
 
     number_is : (j : ℕ) → j < answer_numbers → get_or answers_now (answer_numbers * k + j) 0 ≡ get_or (numbers_at s k) j 0
     number_is j l = sym (get_or-take answer_numbers (drop (answer_numbers * k) answers_now) j 0 l ∙ get_or-drop (answer_numbers * k) answers_now j 0) ∙ ap (λ (a : List ℕ). get_or a j 0) numbers_are
@@ -63,16 +64,15 @@ module _ (s sets answers : List ℕ) (accepted : check_class s (length sets) (le
 
     -- ---- a refused sheet
 
-    module _ (num place : ℕ) (e : check_sheet x ≡ Refused num place) where
-      refused_numbers : (j : ℕ) → get_or (num ∷ place ∷ 0 ∷ []) j 0 ≡ get_or (numbers_at s k) j 0
-      unfolding result_of
-      refused_numbers j = ap (λ (a : List ℕ). get_or a j 0) (numbers_refused ((own_number x).each e).0 (sym (ap result_of (live_refused x slot_bytes e))))
+    module _ (e : Refusal) (q : check_sheet x ≡ Err e) where
+      refused_numbers : (j : ℕ) → get_or (number_of e ∷ place_of e ∷ 0 ∷ []) j 0 ≡ get_or (numbers_at s k) j 0
+      refused_numbers j = ap (λ (r : Reply). get_or (numbers_of (answer_of r)) j 0) (sym (live_refused x slot_bytes q))
 
       refused_slot : slot_after s sets k ≡ lent
-      unfolding slot_after output_after
-      refused_slot = ap (λ (r : Reply). output_after r lent) (live_refused x slot_bytes e)
+      unfolding slot_after
+      refused_slot = ap (λ (r : Reply). output_after r lent) (live_refused x slot_bytes q)
 
-      refused_at : RefusedAt num place k sets sets_now answers_now
+      refused_at : RefusedAt e k sets sets_now answers_now
       refused_at = record {
         number = first_is ∙ sym (refused_numbers 0);
         place = number_is 1 (omega arith) ∙ sym (refused_numbers 1);
@@ -87,11 +87,10 @@ module _ (s sets answers : List ℕ) (accepted : check_class s (length sets) (le
       bytes = live_bytes (analyze (code_of x) (locals_of x)).info
 
       accepted_numbers : (j : ℕ) → get_or (0 ∷ 0 ∷ (analyze (code_of x) (locals_of x)).taken ∷ []) j 0 ≡ get_or (numbers_at s k) j 0
-      unfolding result_of
-      accepted_numbers j = ap (λ (a : List ℕ). get_or a j 0) (numbers_accepted (sym (ap result_of (alone_done x slot_bytes (omega arith) e))))
+      accepted_numbers j = ap (λ (r : Reply). get_or (numbers_of (answer_of r)) j 0) (sym (alone_done x slot_bytes (omega arith) e))
 
       accepted_slot : slot_after s sets k ≡ bytes ++ drop (length bytes) lent
-      unfolding slot_after output_after
+      unfolding slot_after
       accepted_slot = ap (λ (r : Reply). output_after r lent) (alone_done x slot_bytes (omega arith) e)
 
       accepted_at : AcceptedAt x k sets sets_now answers_now
@@ -110,17 +109,17 @@ module _ (s sets answers : List ℕ) (accepted : check_class s (length sets) (le
 
     never_nine : number_at answers_now k ≡ 9 → ⊥
     never_nine q =
-        by_checks x slot_bytes (omega arith) (λ r. ⊥) (λ num place e. ((own_number x).each e).1 (sym (refused_at num place e).number ∙ q)) (λ e. omega (arith, (accepted_at e).number))
+        by_checks x slot_bytes (omega arith) (λ r. ⊥) (λ e r. ((own_number x).each r).1 (sym (refused_at e r).number ∙ q)) (λ e. omega (arith, (accepted_at e).number))
 
   pub class_meaning : ClassMeaning s sets answers sets_now answers_now
   class_meaning = record {
-    alone_numbers = λ k lent h l. numbers_are k h ∙ ap (λ (r : Reply). numbers_of (result_of r)) (alone_same (sheet_at s k) lent l);
+    alone_numbers = λ k lent h l. numbers_are k h ∙ ap (λ (r : Reply). numbers_of (answer_of r)) (alone_same (sheet_at s k) lent l);
     never_short = never_nine;
     alone_sets = λ k h. slot_is k h ∙ (unfold slot_after in refl);
-    refused = λ k num place h e. refused_at k h num place e;
+    refused = λ k e h q. refused_at k h e q;
     accepted = λ k h e. accepted_at k h e;
     sets_behind = piece_behind slot_bytes (slot_after s sets) sets (sheets_in s) slots;
-    answers_behind = piece_behind answer_numbers (numbers_at s) answers (sheets_in s) (λ j l. numbers_long (result_of (alone_at s j)));
+    answers_behind = piece_behind answer_numbers (numbers_at s) answers (sheets_in s) (λ j l. numbers_long (answer_of (alone_at s j)));
   }
 
   -- the outputs of the definition
@@ -133,7 +132,7 @@ module _ (s sets answers : List ℕ) (accepted : check_class s (length sets) (le
 -- ---- the call, where it is not refused
 
 pub record ClassDone (s sets answers sets' answers' : List ℕ) (m : ℕ) : Type 0 where
-  pub result : record { number = 0; value = m } ≡ result_of (sets_reply s sets (length answers))
+  pub result : Ok m ≡ answer_of (sets_reply s sets (length answers))
   pub written : sets' ≡ output_after (sets_reply s sets (length answers)) sets
   pub answered : answers' ≡ output_after (answers_reply s (length sets) (length answers)) answers
   pub means : ClassMeaning s sets answers sets' answers'
@@ -158,7 +157,7 @@ pub same_sheet : (s₁ sets₁ answers₁ s₂ sets₂ answers₂ : List ℕ) �
 same_sheet s₁ sets₁ answers₁ s₂ sets₂ answers₂ a₁ a₂ k h₁ h₂ q =
     rw (sets_now_lem s₁ sets₁ answers₁ a₁, sets_now_lem s₂ sets₂ answers₂ a₂, answers_now_lem s₁ sets₁ answers₁ a₁, answers_now_lem s₂ sets₂ answers₂ a₂)
     (record {
-      numbers = numbers_are s₁ sets₁ answers₁ a₁ k h₁ ∙ ap (λ (x : List ℕ). numbers_of (result_of (live_reply x slot_bytes))) q ∙ sym (numbers_are s₂ sets₂ answers₂ a₂ k h₂);
+      numbers = numbers_are s₁ sets₁ answers₁ a₁ k h₁ ∙ ap (λ (x : List ℕ). numbers_of (answer_of (live_reply x slot_bytes))) q ∙ sym (numbers_are s₂ sets₂ answers₂ a₂ k h₂);
       bytes = λ e i l. written_byte s₁ sets₁ answers₁ a₁ k h₁ e i l ∙ ap (λ (x : List ℕ). get_or (live_bytes (analyze (code_of x) (locals_of x)).info) i 0) q
           ∙ sym (written_byte s₂ sets₂ answers₂ a₂ k h₂ (sym (ap check_sheet q) ∙ e) i (omega (arith, ap (λ (x : List ℕ). pair_bytes * length (code_of x)) q)));
     })

@@ -1,9 +1,12 @@
 -- A class set, document 02's E3: sheets laid end to end, where each starts, the checks of the whole, and the call live over each of them. Assumes nothing.
-use Rattle.std.specs.Prelude.{ℕ, suc, ◌-◌, ◌*◌, ◌/◌, ◌%◌, Bool, cond, ◌&&◌, List, [], ◌∷◌, eqb, leb, length, get_or}
+use Rattle.std.specs.Prelude.{ℕ, suc, ◌-◌, ◌*◌, ◌/◌, ◌%◌, Bool, ◌&&◌, List, [], ◌∷◌, eqb, leb, length, get_or, Result, Ok, Err}
+use Rattle.base.specs.declared.Refusal.{Refusal}
+use Rattle.base.specs.declared.Refusal.TheVariants.{FirstBlock, Length, TooManySheets}
+use Rattle.std.specs.List.{filter, range_with_len}
 use Rattle.base.specs.Sizes.{block_bytes, max_sheets, slot_bytes, answer_numbers}
-use Rattle.base.specs.Lists.{keep, joins}
+use Rattle.base.specs.Lists.{joins}
 use Rattle.base.specs.Bytes.{part, u16_at}
-use Rattle.base.specs.Refusals.{Verdict, check, whole, ◌then◌, lends, Reply, Done, reply, Result, result_of, output_after}
+use Rattle.base.specs.Refusals.{Verdict, check_whole, ◌then◌, lends, Reply, Done, reply, answer_of, output_after, number_of, place_of}
 use Rattle.livevar_analysis.specs.Analysis.{live_reply}
 
 -- ---- the cut
@@ -18,7 +21,7 @@ starts_at s b = eqb (u16_at s (block_bytes * b)) 0
 
 -- a sheet starts at each of these blocks
 unfoldable pub starts_of : List ℕ → List ℕ
-starts_of s = keep (blocks_in s) 0 (starts_at s)
+starts_of s = filter (starts_at s) (range_with_len 0 (blocks_in s))
 
 -- how many sheets there are
 abbrev pub sheets_in : List ℕ → ℕ
@@ -37,9 +40,9 @@ sheet_at s k = part s (block_bytes * start_of s k) (block_bytes * (start_of s (s
 -- 1, 16, 17, and 9 for either output, where so many bytes and so many numbers are lent
 unfoldable pub check_class : List ℕ → ℕ → ℕ → Verdict
 check_class s lent numbers =
-    check 1 (whole (leb 1 (length s) && eqb (length s % block_bytes) 0))
-    then check 16 (whole (starts_at s 0))
-    then check 17 (whole (leb (sheets_in s) max_sheets))
+    check_whole Length (leb 1 (length s) && eqb (length s % block_bytes) 0)
+    then check_whole FirstBlock (starts_at s 0)
+    then check_whole TooManySheets (leb (sheets_in s) max_sheets)
     then lends lent (slot_bytes * sheets_in s)
     then lends numbers (answer_numbers * sheets_in s)
 
@@ -53,9 +56,10 @@ alone_at s k = live_reply (sheet_at s k) slot_bytes
 unfoldable pub slot_after : List ℕ → List ℕ → ℕ → List ℕ
 slot_after s sets k = output_after (alone_at s k) (part sets (slot_bytes * k) slot_bytes)
 
--- a result in three numbers: number and place, both 0 if accepted, and the count, 0 if refused
-unfoldable pub numbers_of : Result → List ℕ
-numbers_of r = cond (eqb r.number 0) (0 ∷ 0 ∷ r.value ∷ []) (r.number ∷ r.value ∷ 0 ∷ [])
+-- an answer in three numbers: 0, 0 and the count; or number, place and 0, if refused
+abbrev pub numbers_of : Result ℕ Refusal → List ℕ
+numbers_of (Ok count) = 0 ∷ 0 ∷ count ∷ []
+numbers_of (Err e) = number_of e ∷ place_of e ∷ 0 ∷ []
 
 -- ---- the call: the number of sheets
 
@@ -65,4 +69,4 @@ sets_reply s sets numbers = reply (check_class s (length sets) numbers) (Done (s
 
 -- and `answers`: the three numbers of each
 unfoldable pub answers_reply : List ℕ → ℕ → ℕ → Reply
-answers_reply s lent numbers = reply (check_class s lent numbers) (Done (sheets_in s) (joins (sheets_in s) (λ k. numbers_of (result_of (alone_at s k)))))
+answers_reply s lent numbers = reply (check_class s lent numbers) (Done (sheets_in s) (joins (sheets_in s) (λ k. numbers_of (answer_of (alone_at s k)))))

@@ -15,6 +15,7 @@ use Rattle.sheet.specs.Checks.{block_ok, check_sheet}
 use Rattle.sheet.specs.CheckLaws.{clear}
 use Rattle.sheet.specs.FormLaws.{length_sized}
 use Rattle.class_set.specs.ClassSet.{blocks_in, starts_at, starts_of, sheets_in, start_of, sheet_at}
+use Rattle.class_set.specs.CutLaws.{starts_kept}
 use Rattle.class_set.specs.ClassMeaning.{OneSheet, CutAsLaid}
 
 -- ---- `keep` in two parts
@@ -67,12 +68,11 @@ module _ (a x : List ℕ) (n : ℕ) (size : length a ≡ block_bytes * n) where
       ∙ ap₂ (λ (l g : ℕ). eqb (l + 256 * g) 0) (get_or-append-add a x (block_bytes * b) 0) (get_or-append-add a x (block_bytes * b + 1) 0)
 
   starts_more : OneSheet x → starts_of (a ++ x) ≡ starts_of a ++ (n ∷ [])
-  unfolding starts_of
   starts_more one =
       let all : blocks_in (a ++ x) ≡ n + one.blocks = omega (arith, length-append a x, one.size) in
       let old : blocks_in a ≡ n = omega arith in
-      ap (λ (c : ℕ). keep c 0 (starts_at (a ++ x))) all ∙ keep_append n one.blocks 0 (starts_at (a ++ x))
-      ∙ ap₂ ◌++◌ (keep_agree n 0 (starts_at (a ++ x)) (starts_at a) (λ i l h. start_in i (omega arith)) ∙ ap (λ (c : ℕ). keep c 0 (starts_at a)) (sym old))
+      starts_kept (a ++ x) ∙ ap (λ (c : ℕ). keep c 0 (starts_at (a ++ x))) all ∙ keep_append n one.blocks 0 (starts_at (a ++ x))
+      ∙ ap₂ ◌++◌ (keep_agree n 0 (starts_at (a ++ x)) (starts_at a) (λ i l h. start_in i (omega arith)) ∙ ap (λ (c : ℕ). keep c 0 (starts_at a)) (sym old) ∙ sym (starts_kept a))
       (ap (λ (k : ℕ). keep one.blocks k (starts_at (a ++ x))) (zero-add n)
       ∙ keep_one one.blocks n (starts_at (a ++ x)) one.some (ap (starts_at (a ++ x)) (omega arith) ∙ start_behind 0 ∙ one.first)
       (λ i l h. let place : i ≡ n + (i - n) = omega arith in ap (starts_at (a ++ x)) place ∙ start_behind (i - n) ∙ one.later (i - n) (omega arith) (omega arith)))
@@ -89,7 +89,7 @@ module _ (f : ℕ → List ℕ) where
     pub starts : starts_of (joins m f) ≡ tab m 0 front
 
   laid : (m : ℕ) → ((k : ℕ) → k < m → OneSheet (f k)) → Laid m
-  unfolding joins starts_of keep tab
+  unfolding joins starts_of tab
   laid zero one = record { size = refl; starts = refl }
   laid (suc m) one =
       let w = laid m (λ k h. one k (omega arith)) in

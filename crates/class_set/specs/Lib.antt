@@ -1,6 +1,8 @@
 -- What the public contracts and theorems say.
 pub mod ClassSet
 pub mod ClassMeaning
+-- What the inner contracts say.
+pub mod Room
 -- Laws.
 pub mod CutLaws
 pub mod ClassLaws

@@ -3,6 +3,7 @@ pub mod Lattice
 pub mod Worklist
 -- What the inner contracts say.
 pub mod Queue
+pub mod Receipt
 -- Laws.
 pub mod LatticeLaws
 pub mod ReceiveLaws

@@ -1,12 +1,11 @@
 -- What the cursor's methods and the main loop's turns are to the definition's list and state. Assumes nothing.
-use Rattle.std.specs.Prelude.{◌≡◌, get_or, set, length, take, drop, refl, List, [], ◌∷◌, ℕ, zero, suc, ◌+◌, ◌-◌, ◌≤◌, ◌<◌}
-use Rattle.std.proofs.Common.{ap, sym, ap₂, ◌∙◌, zero-add, add-one, length-drop, drop-cons, take-suc-set, length-take-le, arith}
+use Rattle.std.specs.Prelude.{◌≡◌, Some, None, get_or, set, length, take, drop, refl, List, [], ◌∷◌, ℕ, zero, suc, ◌+◌, ◌-◌, ◌≤◌, ◌<◌}
+use Rattle.std.proofs.Common.{ap, sym, ap₂, ◌∙◌, zero-add, add-one, length-set, length-drop, drop-cons, take-suc-set, length-take-le, arith}
 use Rattle.std.proofs.lemmas.List.{drop-set-add}
 use Rattle.dataflow_analysis.specs.declared.Cursor.{Cursor}
-use Rattle.dataflow_analysis.specs.declared.FirstKey.TheVariants.{Key, Empty}
 use Rattle.dataflow_analysis.specs.Lattice.{Lattice}
-use Rattle.dataflow_analysis.specs.Worklist.{State, popped, step, run}
-use Rattle.dataflow_analysis.specs.Queue.{waiting, past_first, taken_of, Queued, state_of}
+use Rattle.dataflow_analysis.specs.Worklist.{State, step, run}
+use Rattle.dataflow_analysis.specs.Queue.{waiting, past_first, taken_of, Queued}
 
 -- ---- the list
 
@@ -26,6 +25,7 @@ put_list q c r k fits eh el = record {
   queued = ap₂ (λ (n h : ℕ). take n (drop h (set q (c.head + c.len) k))) (el ∙ add-one c.len) eh ∙ ap (take (suc c.len)) (drop-set-add c.head q c.len k) ∙ take-suc-set (drop c.head q) c.len k (omega (arith, length-drop c.head q));
   same_head = eh;
   longer = el;
+  within = omega (arith, length-set q (c.head + c.len) k);
 }
 
 -- where a key waits
@@ -44,30 +44,26 @@ pub record Took (q : List ℕ) (c : Cursor) (k : ℕ) (n : Cursor) : Type 0 wher
   pub next_head : n.head ≡ c.head + 1
   pub same_end : n.head + n.len ≡ c.head + c.len
 
-pub took_key : (q : List ℕ) (c : Cursor) (k : ℕ) (n : Cursor) → c.head + c.len ≤ length q → Key k n ≡ taken_of (waiting q c) c → Took q c k n
+pub took_key : (q : List ℕ) (c : Cursor) (k : ℕ) (n : Cursor) → c.head + c.len ≤ length q → Some (k, n) ≡ taken_of (waiting q c) c → Took q c k n
 took_key q c k n h e = go (waiting q c) refl e
   where
-    go : (l : List ℕ) → waiting q c ≡ l → Key k n ≡ taken_of l c → Took q c k n
+    go : (l : List ℕ) → waiting q c ≡ l → Some (k, n) ≡ taken_of l c → Took q c k n
     go [] f e = let z : ◌≡◌ {A = ℕ} 0 1 = cc in absurd (omega arith)
     go (x ∷ xs) f e =
         let some : 0 < c.len = omega (arith, list_length q c h, ap length f) in
         let front : waiting q c ≡ get_or q c.head 0 ∷ waiting q (past_first c) = take_first q c some h in
-        let is : n ≡ past_first c = cc in
-        let key : k ≡ get_or q c.head 0 = cc in
+        let pair : ◌≡◌ {A = ℕ × Cursor} (k, n) (x, past_first c) = cc in
+        let is : n ≡ past_first c = ap (λ (p : ℕ × Cursor). p.1) pair in
+        let key : k ≡ get_or q c.head 0 = ap (λ (p : ℕ × Cursor). p.0) pair ∙ cc in
         record { queued = rw (is, key) front; next_head = rw is refl; same_end = rw is (omega arith) }
 
 -- none waited
-pub took_none : (q : List ℕ) (c : Cursor) → Empty ≡ taken_of (waiting q c) c → waiting q c ≡ []
+pub took_none : (q : List ℕ) (c : Cursor) → None ≡ taken_of (waiting q c) c → waiting q c ≡ []
 took_none q c e = go (waiting q c) e
   where
-    go : (l : List ℕ) → Empty ≡ taken_of l c → l ≡ []
+    go : (l : List ℕ) → None ≡ taken_of l c → l ≡ []
     go [] e = refl
     go (x ∷ xs) e = let z : ◌≡◌ {A = ℕ} 0 1 = cc in absurd (omega arith)
-
--- the state after it is the definition's
-pub took_popped : (sets met q : List ℕ) (c n : Cursor) (t : ℕ) → state_of sets met q n (suc t) ≡ popped (state_of sets met q c t) (waiting q n)
-unfolding state_of popped
-took_popped sets met q c n t = refl
 
 -- ---- the main loop: its invariant is `run leads out bound start ≡ run leads out fuel st`
 

@@ -1,66 +1,89 @@
--- A receipt over sets in a slice of words is the definition's receipt. Assumes nothing.
-use Rattle.std.specs.Prelude.{◌≡◌, refl, Bool, true, false, cond, not, ◌||◌, List, [], ◌∷◌, ◌++◌, ℕ, ◌+◌, ◌<◌, eqb, get_or, set, length}
-use Rattle.std.proofs.Common.{sym, ap, ◌∙◌, arith, eq-eqb, ne_eqb}
+-- A receipt over sets and flags in slices is the definition's receipt. Assumes nothing.
+use Rattle.std.specs.Prelude.{◌≡◌, refl, Some, None, Bool, true, false, cond, not, ◌||◌, List, map, ℕ, eqb, get_or, set, length}
+use Rattle.std.proofs.Common.{sym, ap, ap₂, ◌∙◌, add-one}
+use Rattle.std.proofs.lemmas.List.{map-set}
+use Rattle.std.proofs.Math.ListN.{get_or-map}
 use Rattle.dataflow_domains.specs.Mask.{union}
-use Rattle.dataflow_domains.specs.Sets.{stored_set, sets_of, Stored}
-use Rattle.dataflow_domains.specs.StoredLaws.{set_at}
+use Rattle.dataflow_domains.specs.Sets.{mask}
+use Rattle.dataflow_domains.specs.declared.LiveVarState.{LiveVarState}
 use Rattle.dataflow_analysis.specs.declared.Cursor.{Cursor}
-use Rattle.dataflow_analysis.specs.Worklist.{State, receive, news, joined}
-use Rattle.dataflow_analysis.specs.Lattice.{masks}
-use Rattle.dataflow_analysis.specs.Queue.{waiting, Queued, state_of, news_at, Received}
+use Rattle.dataflow_analysis.specs.declared.Worklist.{Worklist}
+use Rattle.dataflow_analysis.specs.Worklist.{receive, news, joined, popped}
+use Rattle.dataflow_analysis.specs.Queue.{waiting, taken_of, Queued}
+use Rattle.dataflow_analysis.specs.QueueLaws.{took_key, took_none}
+use Rattle.dataflow_analysis.specs.Receipt.{flag, state_of, state, news_at, SameSlices, Received, Taken, Ended}
 
--- the slices tell the news
-pub news_at_lem : (words met q : List ℕ) (c : Cursor) (p m n t : ℕ) → p < n → news m (state_of (sets_of n words) met q c t) p ≡ news_at words met p m
-unfolding news news_at state_of
-news_at_lem words met q c p m n t h =
-    ap (λ (x : ℕ). eqb (get_or met p 0) 0 || not (eqb (union x m) x)) (set_at n words p h)
+pub same_slices : (w : Worklist) → SameSlices w w
+same_slices w = record { sets = refl; met = refl; queue = refl; sets_long = refl; met_long = refl; queue_long = refl }
 
--- ---- when there is news
+pub same_then : {a b c : Worklist} → SameSlices a b → SameSlices b c → SameSlices a c
+same_then p q = record {
+  sets = q.sets ∙ p.sets;
+  met = q.met ∙ p.met;
+  queue = q.queue ∙ p.queue;
+  sets_long = q.sets_long ∙ p.sets_long;
+  met_long = q.met_long ∙ p.met_long;
+  queue_long = q.queue_long ∙ p.queue_long;
+}
 
--- p was not met
-pub news_first : (words met : List ℕ) (p m : ℕ) → get_or met p 0 ≡ 0 → news_at words met p m ≡ true
-unfolding news_at
-news_first words met p m e = ap (λ (b : Bool). b || not (eqb (union (stored_set words p) m) (stored_set words p))) (eq-eqb (get_or met p 0) 0 e)
+module _ (w : Worklist) (p m old : ℕ) (is : old ≡ get_or (map mask w.sets.now) p 0) where
+  -- ---- when there is news
 
--- p was met, and old is its set
-pub news_again : (words met : List ℕ) (p m old : ℕ) → old ≡ stored_set words p → (get_or met p 0 ≡ 0 → ⊥) → news_at words met p m ≡ not (eqb (union old m) old)
-unfolding news_at
-news_again words met p m old is h =
-    ap (λ (b : Bool). b || not (eqb (union (stored_set words p) m) (stored_set words p))) (ne_eqb (get_or met p 0) 0 h)
-    ∙ ap (λ (x : ℕ). not (eqb (union x m) x)) (sym is)
+  -- p was not met
+  pub news_first : get_or w.met.now p false ≡ false → news_at w p m ≡ true
+  unfolding news state_of
+  news_first e =
+      ap (λ (x : ℕ). eqb x 0 || not (eqb (union (get_or (map mask w.sets.now) p 0) m) (get_or (map mask w.sets.now) p 0))) (get_or-map flag w.met.now p false ∙ ap flag e)
 
--- ---- the receipt
+  -- p was met, and old is its set
+  pub news_again : get_or w.met.now p false ≡ true → news_at w p m ≡ not (eqb (union old m) old)
+  unfolding news state_of
+  news_again e =
+      ap (λ (x : ℕ). eqb x 0 || not (eqb (union (get_or (map mask w.sets.now) p 0) m) (get_or (map mask w.sets.now) p 0))) (get_or-map flag w.met.now p false ∙ ap flag e)
+      ∙ ap (λ (x : ℕ). not (eqb (union x m) x)) (sym is)
 
--- p joins the list
-receive_news : (sets met q q₁ : List ℕ) (c r : Cursor) (p m t : ℕ) → news m (state_of sets met q c t) p ≡ true → waiting q₁ r ≡ waiting q c ++ (p ∷ [])
-    → state_of (set sets p (union (get_or sets p 0) m)) (set met p 1) q₁ r t ≡ receive m (state_of sets met q c t) p
-unfolding receive joined state_of
-receive_news sets met q q₁ c r p m t e queued =
-    ap (λ (l : List ℕ). made l) queued
-    ∙ sym (ap (λ (b : Bool). cond b (joined m (state_of sets met q c t) p) (state_of sets met q c t)) e)
-  where
-    made : List ℕ → State masks
-    made l = record { sets = set sets p (union (get_or sets p 0) m); met = set met p 1; list = l; taken = t }
+  -- ---- the receipt
 
--- nothing changes
-receive_none : (m : ℕ) (st : State masks) (p : ℕ) → news m st p ≡ false → st ≡ receive m st p
-unfolding receive
-receive_none m st p e = sym (ap (λ (b : Bool). cond b (joined m st p) st) e)
-
-module _ (words met q : List ℕ) (c : Cursor) (p m : ℕ) where
   -- with news p joins the list: its old set with m is stored, it is met, and its key is put
-  pub received_news : (old s : ℕ) (words₁ q₁ : List ℕ) (r : Cursor) → news_at words met p m ≡ true → old ≡ stored_set words p → s ≡ union old m → Stored words p s words₁
-      → c.head + c.len < length q → Queued q c p q₁ r → Received words met q c p m words₁ (set met p 1) q₁ r
-  received_news old s words₁ q₁ r e is grown stored room put = record {
-    state = λ n t inside fits. ap (λ (x : List ℕ). state_of x (set met p 1) q₁ r t) (stored.sets n inside fits ∙ ap (set (sets_of n words) p) (grown ∙ ap (λ (x : ℕ). union x m) (is ∙ sym (set_at n words p inside)))) ∙ receive_news (sets_of n words) met q q₁ c r p m t (news_at_lem words met q c p m n t inside ∙ e) put.queued;
-    same_head = put.same_head;
-    fits = λ h. omega (arith, put.same_head, put.longer);
-  }
+  pub received_news : (s : LiveVarState) (w₁ : Worklist) → news_at w p m ≡ true → mask s ≡ union old m → Queued w.queue.now w.cursor p w₁.queue.now w₁.cursor → w₁.sets.now ≡ set w.sets.now p s → w₁.met.now ≡ set w.met.now p true
+      → SameSlices w w₁ → Received w p m w₁
+  received_news s w₁ e grown put sets met same = record { state_is = here; same_head = put.same_head; same = same }
+    where
+      here : state w₁ ≡ receive m (state w) p
+      here = unfold state_of receive joined in rw (sets, met, map-set mask w.sets.now p s, map-set flag w.met.now p true, put.queued, put.same_head, grown, is, e)
 
   -- without news nothing changes
-  pub received_none : news_at words met p m ≡ false → Received words met q c p m words met q c
-  received_none e = record {
-    state = λ n t inside fits. receive_none m (state_of (sets_of n words) met q c t) p (news_at_lem words met q c p m n t inside ∙ e);
-    same_head = refl;
-    fits = λ h. h;
+  pub received_none : news_at w p m ≡ false → Received w p m w
+  unfolding receive
+  received_none e = record { state_is = sym (ap (λ (b : Bool). cond b (joined m (state w) p) (state w)) e); same_head = refl; same = same_slices w }
+
+-- ---- the first to wait
+
+module _ (w w₁ : Worklist) (sets : w₁.sets ≡ w.sets) (met : w₁.met ≡ w.met) (queue : w₁.queue ≡ w.queue) where
+  same : SameSlices w w₁
+  same = record {
+    sets = ap (λ s. s.ghost_name) sets;
+    met = ap (λ s. s.ghost_name) met;
+    queue = ap (λ s. s.ghost_name) queue;
+    sets_long = ap (λ s. length s.now) sets;
+    met_long = ap (λ s. length s.now) met;
+    queue_long = ap (λ s. length s.now) queue;
   }
+
+  alike : (c : Cursor) (taken : ℕ) → state_of w₁.sets.now w₁.met.now w₁.queue.now c taken ≡ state_of w.sets.now w.met.now w.queue.now c taken
+  alike c taken = ap₂ (λ (s : List LiveVarState) (t : List Bool). state_of s t w₁.queue.now c taken) (ap (λ s. s.now) sets) (ap (λ s. s.now) met) ∙ ap (λ (q : List ℕ). state_of w.sets.now w.met.now q c taken) (ap (λ s. s.now) queue)
+
+  pub taken_first : (k : ℕ) → Some (k, w₁.cursor) ≡ taken_of (waiting w.queue.now w.cursor) w.cursor → Taken w k w₁
+  unfolding state_of popped
+  taken_first k e =
+      let took = took_key w.queue.now w.cursor k w₁.cursor w.fits e in
+      record {
+        first = rw queue took.queued;
+        state_is = alike w₁.cursor w₁.cursor.head ∙ rw (queue, took.next_head, add-one);
+        next_head = took.next_head;
+        same = same;
+      }
+
+  pub ended : w₁.cursor ≡ w.cursor → None ≡ taken_of (waiting w.queue.now w.cursor) w.cursor → Ended w w₁
+  unfolding state_of
+  ended c e = record { none = took_none w.queue.now w.cursor e; state_is = alike w₁.cursor w₁.cursor.head ∙ ap (λ (x : Cursor). state_of w.sets.now w.met.now w.queue.now x x.head) c; same_head = ap (λ (x : Cursor). x.head) c; same = same }

@@ -134,7 +134,6 @@ module _ {L : Lattice} (W : Laws L) where
   pub over_keeps : (P : State L → Type 0) (n : ℕ) (m : A) (ps : List ℕ) → AllBelow n ps
       → ((st : State L) (p : ℕ) → Memᴰ p ps → p < n → Ok n st → P st → P (receive m st p))
       → (st : State L) → Ok n st → P st → P (over (receive m) st ps)
-  unfolding over
   over_keeps P n m [] inside keep st ok h = h
   over_keeps P n m (p ∷ ps) inside keep st ok h =
       over_keeps P n m ps (inside_tail inside) (λ s q i. keep s q (Memᴰ.tail i)) (receive m st p)
@@ -153,7 +152,6 @@ module _ {L : Lattice} (W : Laws L) where
     pub has : W.Le m (set_at st p)
 
   pub over_has : (n : ℕ) (m : A) (ps : List ℕ) → AllBelow n ps → (st : State L) → Ok n st → (p : ℕ) → Memᴰ p ps → Has m (over (receive m) st ps) p
-  unfolding over
   over_has n m [] inside st ok p i = absurd (Memᴰ.not-nil i)
   over_has n m (q ∷ qs) inside st ok p i =
       ⊎_elim (λ e. here e) (λ t. over_has n m qs (inside_tail inside) (receive m st q) next p t) (Memᴰ.cases_cons i)

@@ -70,12 +70,10 @@ module _ {K L : Lattice} {h : K.Value → L.Value} {Good : K.Value → Type 0} {
     -- ---- many nodes
 
     over_image : (ps : List ℕ) (st : State K) → AllGood K Good st → over (receive (h v)) (image_of K L h st) ps ≡ image_of K L h (over (receive v) st ps)
-    unfolding over
     over_image [] st all = refl
     over_image (p ∷ ps) st all = ap (λ (s : State L). over (receive (h v)) s ps) (receive_image st p all) ∙ over_image ps (receive v st p) (receive_good st p all)
 
     over_good : (ps : List ℕ) (st : State K) → AllGood K Good st → AllGood K Good (over (receive v) st ps)
-    unfolding over
     over_good [] st all = all
     over_good (p ∷ ps) st all = over_good ps (receive v st p) (receive_good st p all)
 

@@ -183,7 +183,6 @@ module _ {L : Lattice} (W : Laws L) (leads : ℕ → List ℕ) (out : ℕ → L.
       go (k ∷ ks) e rest = rest (step leads out st k ks) (keep st k ks e h)
 
   pub over_taken : (m : A) (ps : List ℕ) (st : State L) → (over (receive m) st ps).taken ≡ st.taken
-  unfolding over
   over_taken m [] st = refl
   over_taken m (p ∷ ps) st =
       over_taken m ps (receive m st p) ∙ by_news W (λ (s : State L). s.taken ≡ st.taken) m st p (λ e. unfold joined in refl) (λ e. refl)

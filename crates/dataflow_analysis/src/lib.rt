@@ -1,12 +1,11 @@
-// The first-in work list: its cursor by value beside the slice of keys, and a receipt over sets in a slice of words.
+// The first-in work list: its cursor by value beside the slice of keys, and a receipt over the sets of the nodes.
 #![tactic(auto)]
 
-ghost use Rattle.std.specs.Prelude.{◌≡◌, true, ◌+◌, ◌*◌, ◌<◌, ◌≤◌, length};
-ghost use Rattle.base.specs.Sizes.{set_words};
+ghost use Rattle.std.specs.Prelude.{◌≡◌, true, ◌+◌, ◌<◌, ◌≤◌, length, IfNone, IfSome};
 ghost use Rattle.dataflow_domains.specs.Sets.{mask};
-ghost use Rattle.dataflow_analysis.specs.Queue.{waiting, taken_of, Queued, news_at, Received};
+ghost use Rattle.dataflow_analysis.specs.Queue.{waiting, taken_of, Queued};
 
-use dataflow_domains::{JoinResult, LiveVarState};
+use dataflow_domains::{JoinResult, Joined, LiveVarState};
 
 // The keys wait at `head` and the `len` places from there on, in a slice beside it.
 #[derive(Clone, Copy)]
@@ -15,16 +14,10 @@ pub struct Cursor {
     pub len: usize,
 }
 
-// The first key and the cursor past it, or that none waits.
-#[derive(Clone, Copy)]
-pub enum FirstKey {
-    Key(u16, Cursor),
-    Empty,
-}
-
 impl Cursor {
     pub fn new() -> Cursor
-        ensures { (result.head ≡ 0) × (result.len ≡ 0) }
+        ensures head { result.head ≡ 0 }
+        ensures len { result.len ≡ 0 }
     {
         Cursor { head: 0, len: 0 }
     }
@@ -34,61 +27,73 @@ impl Cursor {
         requires { self.head + self.len < length q.old }
         ensures { Queued q.old self k q.new result }
     {
-        let head = self.head;
-        let len = self.len;
-        let at = head + len;
-        q[at] = k;
-        Cursor { head, len: len + 1 }
+        q[self.head + self.len] = k;
+        Cursor {
+            len: self.len + 1,
+            ..self
+        }
     }
 
-    // The one at the front.
-    pub fn take(self, q: &[u16]) -> FirstKey
+    // The one at the front, and the cursor past it.
+    pub fn take(self, q: &[u16]) -> Option<(u16, Cursor)>
         requires { self.head + self.len ≤ length q.now }
         ensures { result ≡ taken_of (waiting q.now self) self }
     {
-        let head = self.head;
-        let len = self.len;
-        if len == 0 {
-            return FirstKey::Empty;
+        if self.len == 0 {
+            return None;
         }
-        FirstKey::Key(
-            q[head],
-            Cursor {
-                head: head + 1,
-                len: len - 1,
-            },
-        )
+        let next = Cursor {
+            head: self.head + 1,
+            len: self.len - 1,
+        };
+        Some((q[self.head], next))
     }
 }
 
-// Node p receives the set m: it joins the list where it is first met or its set grows.
-pub fn receive_at(
-    sets: &mut [u64],
-    met: &mut [u8],
-    q: &mut [u16],
-    c: Cursor,
-    p: u16,
-    m: LiveVarState,
-) -> Cursor
-    requires { (set_words * p + set_words ≤ length sets.old) × (p < length met.old) × (news_at sets.old met.old p (mask m) ≡ true → c.head + c.len < length q.old) }
-    ensures { Received sets.old met.old q.old c p (mask m) sets.new met.new q.new result }
-{
-    let at = p as usize;
-    let old = LiveVarState::load(sets, at);
-    let joined = old.join(m);
-    let state = joined.state;
-    let result = joined.result;
-    if met[at] == 0 {
-        state.store(sets, at);
-        met[at] = 1;
-        return c.put(q, p);
-    }
-    match result {
-        JoinResult::Unchanged => c,
-        JoinResult::Changed => {
-            state.store(sets, at);
-            met[at] = 1;
-            c.put(q, p)
+// The set of each node, whether it was met, and the nodes that wait.
+#[derive(Drop)]
+pub struct Worklist<'a> {
+    pub sets: &'a mut [LiveVarState],
+    pub met: &'a mut [bool],
+    pub queue: &'a mut [u16],
+    pub cursor: Cursor,
+    ghost nodes: { length sets.now ≡ length met.now },
+    ghost fits: { cursor.head + cursor.len ≤ length queue.now },
+}
+
+impl<'a> Worklist<'a> {
+    ghost use Rattle.dataflow_analysis.specs.Receipt.{news_at, Received, Taken, Ended};
+
+    // Node p receives the set m: it joins the list where it is first met or its set grows.
+    pub fn receive(&mut self, p: u16, m: LiveVarState)
+        requires inside { p < length self.now.met.now }
+        requires room { news_at self.now p (mask m) ≡ true → self.now.cursor.head + self.now.cursor.len < length self.now.queue.now }
+        ensures { Received self.old p (mask m) self.new }
+    {
+        let at = usize::from(p);
+        let old = self.sets[at];
+        let Joined { state, result } = old.join(m);
+        if !self.met[at] || result == JoinResult::Changed {
+            self.sets[at] = state;
+            self.met[at] = true;
+            self.cursor = self.cursor.put(self.queue, p);
         }
+    }
+
+    // The node that waits first, and the cursor past it.
+    fn first(&self) -> Option<(u16, Cursor)>
+        ensures { result ≡ taken_of (waiting self.now.queue.now self.now.cursor) self.now.cursor }
+    {
+        self.cursor.take(self.queue)
+    }
+
+    // The node that waits first, off the list.
+    pub fn take(&mut self) -> Option<u16>
+        ensures none { IfNone result (Ended self.old self.new) }
+        ensures some { IfSome result (λ k. Taken self.old k self.new) }
+    {
+        let (k, next) = self.first()?;
+        self.cursor = next;
+        Some(k)
     }
 }

@@ -65,7 +65,7 @@ holds_single x i =
 
 -- the set of a list: the numbers in it
 pub holds_set_of : (xs : List ℕ) (i : ℕ) → holds (set_of xs) i ≡ has i xs
-unfolding set_of has
+unfolding set_of
 holds_set_of [] i = false_holds 0 i (bit_empty i)
 holds_set_of (x ∷ xs) i =
     holds_union (2 ^ x) (set_of xs) i ∙ ap₂ (λ (a b : Bool). a || b) (holds_single x i) (holds_set_of xs i)

@@ -3,7 +3,7 @@ pub mod Remap
 pub mod Renumber
 pub mod Renumbered
 -- What the inner contracts say.
-pub mod Names
+pub mod Remaps
 -- Laws.
 pub mod MoreListLaws
 pub mod StayingLaws

@@ -37,7 +37,6 @@ tab_map g zero i f' f h = refl
 tab_map g (suc n) i f' f h = ap₂ ◌∷◌ (h i (omega arith)) (tab_map g n (suc i) f' f (λ k l. h k (omega arith)))
 
 pub gather_map : {A B : Type 0} (f : A → List B) (g : A → A) (h : B → B) (xs : List A) → ((x : A) → Memᴰ x xs → f (g x) ≡ map h (f x)) → gather f (map g xs) ≡ map h (gather f xs)
-unfolding gather
 gather_map f g h [] e = refl
 gather_map {B = B} f g h (x ∷ xs) e =
     ap₂ (λ (a b : List B). a ++ b) (e x (mathlib.Core.List.Memᴰ.head refl)) (gather_map f g h xs (λ y i. e y (mathlib.Core.List.Memᴰ.tail i))) ∙ sym (map_append h (f x) (gather f xs))

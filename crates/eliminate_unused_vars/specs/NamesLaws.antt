@@ -1,96 +1,51 @@
--- Numbers for the places of a list, for what an instruction mentions and for all locals that stay; and what `Named` says of the arrays. Assumes nothing.
-use Rattle.std.specs.Prelude.{◌≡◌, true, false, ℕ, suc, ◌+◌, ◌≤◌, ◌<◌, get_or, length, take, List, [], ◌∷◌, ◌++◌}
-use Rattle.std.proofs.Common.{sym, ap, ◌∙◌, subst, arith, length-take-le}
-use mathlib.Core.List.{Memᴰ}
-use Rattle.base.specs.Sizes.{max_locals, list_places}
-use Rattle.base.specs.Numbering.{Numbers, Gives}
-use Rattle.base.specs.NumberingLaws.{number_some, give_nothing, give_next, give_then}
-use Rattle.base.specs.Lists.{tab, gather, place}
-use Rattle.base.specs.ListLaws.{in_has}
-use Rattle.base.specs.GrowLaws.{gather_more}
+-- Numbers for the places of a list, for the user locals and for what the code of an accepted sheet mentions, one after the other. Assumes nothing.
+use Rattle.std.specs.Prelude.{◌≡◌, ℕ, ◌+◌, ◌≤◌, ◌<◌, get_or, length, take, List, [], ◌∷◌}
+use Rattle.std.proofs.Common.{sym, ap, ◌∙◌, add-one, arith, take-suc, take_all}
+use Rattle.base.specs.Sizes.{max_locals}
+use Rattle.base.specs.Bytes.{u16_at}
+use Rattle.base.specs.Lists.{tab, gather, firsts}
+use Rattle.base.specs.Refusals.{Accepted}
+use Rattle.base.specs.GrowLaws.{firsts_append, gather_more}
+use Rattle.base.specs.TabLaws.{tab_last}
 use Rattle.stackless_bytecode.specs.declared.Bytecode.{Bytecode}
-use Rattle.stackless_bytecode.specs.Kinds.{dsts_of, srcs_of, is_flagged, nop, at}
-use Rattle.sheet.specs.Layout.{user_locals_of, code_of}
-use Rattle.livevar_analysis.specs.Rules.{ListedLocals}
-use Rattle.eliminate_unused_vars.specs.Remap.{abort_of, mentions, staying, new_number}
+use Rattle.stackless_bytecode.specs.Kinds.{nop, at}
+use Rattle.sheet.specs.Layout.{count_of, locals_of, user_locals_of, code_of}
+use Rattle.sheet.specs.Checks.{check_sheet}
+use Rattle.sheet.specs.CheckLaws.{code_length}
+use Rattle.sheet.specs.ValidLaws.{accepted_valid}
+use Rattle.livevar_analysis.specs.Rules.{InRange}
+use Rattle.livevar_analysis.specs.InputLaws.{code_at, in_range}
+use Rattle.eliminate_unused_vars.specs.Remap.{mentions, staying}
 use Rattle.eliminate_unused_vars.specs.Renumber.{staying_in}
-use Rattle.eliminate_unused_vars.specs.Names.{first_name, NameRoom, Named, name_in, HasName, ListNamed}
-use Rattle.eliminate_unused_vars.specs.MoreListLaws.{take_in}
-use Rattle.eliminate_unused_vars.specs.StayingLaws.{number_lt}
 
--- the next place of a list
-pub place_next : {n : ℕ} {xs : List ℕ} (i x : ℕ) {numbers order numbers' order' numbers'' order'' : List ℕ} {c r r' : ℕ} → ListedLocals n xs → length xs ≡ list_places → i < n → x ≡ get_or xs i 0
-    → Gives first_name (take i xs) numbers order c numbers' order' r → Gives first_name (x ∷ []) numbers' order' r numbers'' order'' r' → Gives first_name (take (i + 1) xs) numbers order c numbers'' order'' r'
-place_next {xs = xs} i x l size h e g k = give_next xs i x g k (omega (arith, l.few)) e
+-- ---- one more
 
--- arrays of these lengths
-pub same_room : {numbers order numbers' order' : List ℕ} → length numbers' ≡ length numbers → length order' ≡ length order → NameRoom numbers order → NameRoom numbers' order'
-same_room e f r = record { numbers_long = e ∙ r.numbers_long; order_long = f ∙ r.order_long }
+-- place of a list
+pub list_next : (seen xs : List ℕ) (i : ℕ) → i < length xs → firsts (firsts seen (take i xs)) (get_or xs i 0 ∷ []) ≡ firsts seen (take (i + 1) xs)
+list_next seen xs i h = sym (ap (λ (n : ℕ). firsts seen (take n xs)) (add-one i) ∙ ap (firsts seen) (take-suc xs i 0 h) ∙ firsts_append seen (take i xs) (get_or xs i 0 ∷ []))
 
--- the abort local of a flagged Call
-module _ (r : Bytecode) {numbers order : List ℕ} {c : ℕ} where
-  pub gives_plain : Numbers first_name numbers order c → is_flagged r ≡ false → Gives first_name (abort_of r) numbers order c numbers order c
-  gives_plain k f = rw f (give_nothing _ _ _ _ k)
+-- user local
+pub user_next : (seen : List ℕ) (n : ℕ) → firsts (firsts seen (tab n 0 (λ i. i))) (n ∷ []) ≡ firsts seen (tab (n + 1) 0 (λ i. i))
+user_next seen n = sym (ap (firsts seen) (tab_last n (λ i. i)) ∙ firsts_append seen (tab n 0 (λ i. i)) (n ∷ []))
 
-  pub gives_flagged : (x : ℕ) {numbers' order' : List ℕ} {y : ℕ} → is_flagged r ≡ true → x ≡ r.abort → Gives first_name (x ∷ []) numbers order c numbers' order' y → Gives first_name (abort_of r) numbers order c numbers' order' y
-  gives_flagged x f is k = rw f (rw (← is) k)
+-- instruction
+pub code_next : (seen : List ℕ) (code : List Bytecode) (k : ℕ) → k < length code → firsts (firsts seen (gather mentions (take k code))) (mentions (at code k)) ≡ firsts seen (gather mentions (take (k + 1) code))
+code_next seen code k h = sym (ap (firsts seen) (gather_more mentions code k nop h) ∙ firsts_append seen (gather mentions (take k code)) (mentions (at code k)))
 
--- what an instruction mentions: its destinations, its sources, its abort local
-pub gives_mentions : (r : Bytecode) {numbers order numbers' order' numbers'' order'' numbers''' order''' : List ℕ} {c d e x : ℕ} → Gives first_name (dsts_of r) numbers order c numbers' order' d → Gives first_name (srcs_of r) numbers' order' d numbers'' order'' e
-    → Gives first_name (abort_of r) numbers'' order'' e numbers''' order''' x → Gives first_name (mentions r) numbers order c numbers''' order''' x
-unfolding mentions
-gives_mentions r g h k = give_then (dsts_of r ++ srcs_of r) (abort_of r) (give_then (dsts_of r) (srcs_of r) g h) k
+-- ---- an accepted sheet
 
--- the next instruction
-pub code_next : (code : List Bytecode) (k : ℕ) (r : Bytecode) {numbers order numbers' order' numbers'' order'' : List ℕ} {c d e : ℕ} → k < length code → r ≡ at code k
-    → Gives first_name (gather mentions (take k code)) numbers order c numbers' order' d → Gives first_name (mentions r) numbers' order' d numbers'' order'' e → Gives first_name (gather mentions (take (k + 1) code)) numbers order c numbers'' order'' e
-code_next code k r h is g m = rw (gather_more mentions code k nop h, ← is) (give_then (gather mentions (take k code)) (mentions r) g m)
+module _ (s : List ℕ) (accepted : check_sheet s ≡ Accepted) where
+  pub users_low : (u16_at s 8 ≤ u16_at s 6) × (u16_at s 6 ≤ max_locals)
+  unfolding user_locals_of locals_of
+  users_low = let v = accepted_valid s accepted in (v.users, v.locals)
 
--- ---- all locals that stay
+  pub range_at : (k : ℕ) → k < length (code_of s) → InRange (at (code_of s) k)
+  range_at k h = let low : k < count_of s = omega (arith, code_length s) in rw (code_at s accepted k low) (in_range s accepted k low)
 
-pub locals_named : (s : List ℕ) (users : ℕ) {numbers₀ order₀ numbers order : List ℕ} {c r : ℕ} {numbers₁ order₁ : List ℕ} → users ≡ user_locals_of s → NameRoom numbers order → Gives first_name (tab users 0 (λ i. i)) numbers₀ order₀ 0 numbers₁ order₁ c
-    → Gives first_name (gather mentions (code_of s)) numbers₁ order₁ c numbers order r → Named (staying_in s) numbers order r
-unfolding staying new_number
-locals_named s users {numbers₀ = numbers₀} {order₀ = order₀} {numbers = numbers} {order = order} {r = r} own room g h =
-    record { count = sym (length-take-le r order given.inside) ∙ ap length front; front = front; each = each; inside = λ x i. given.within x (subst (λ (l : List ℕ). Memᴰ x l) (sym front) i); few = omega (arith, room.order_long, given.inside, length-take-le r order given.inside, ap length front) }
-  where
-    both : Gives first_name (tab users 0 (λ i. i) ++ gather mentions (code_of s)) numbers₀ order₀ 0 numbers order r
-    both = give_then (tab users 0 (λ i. i)) (gather mentions (code_of s)) g h
-
-    given : Numbers first_name numbers order r
-    given = h.given
-
-    front : take r order ≡ staying_in s
-    front = both.front ∙ ap (λ (u : ℕ). staying u (code_of s)) own
-
-    each : (x : ℕ) → Memᴰ x (staying_in s) → get_or numbers x 0 ≡ suc (place x (staying_in s))
-    each x i =
-        let j = subst (λ (l : List ℕ). Memᴰ x l) (sym front) i in
-        omega (arith, given.each x (given.within x j), number_some first_name (take r order) x (in_has x (take r order) j), ap (place x) front)
-
--- ---- out of the arrays
-
-module _ {stay numbers order : List ℕ} {c : ℕ} (named : Named stay numbers order c) where
-  pub named_few : c ≤ max_locals
-  named_few = omega (arith, named.count, named.few)
-
-  pub named_inside : NameRoom numbers order → c ≤ length order
-  named_inside room = omega (arith, named_few, room.order_long)
-
-  pub named_below : NameRoom numbers order → (i : ℕ) → i < c → get_or order i 0 < max_locals
-  named_below room i h =
-      omega (arith, room.numbers_long, named.inside (get_or order i 0) (subst (λ (xs : List ℕ). Memᴰ (get_or order i 0) xs) named.front (take_in c i order h (named_inside room))))
-
-  -- what stays has its number
-  pub has_name : (x : ℕ) → Memᴰ x stay → HasName numbers x
-  has_name x i = record { inside = named.inside x i; some = omega (arith, named.each x i); small = omega (arith, named.each x i, number_lt stay x i, named.few) }
-
-  pub same_number : (x : ℕ) → Memᴰ x stay → name_in numbers x ≡ new_number stay x
-  unfolding name_in
-  same_number x i = omega (arith, named.each x i)
-
-  pub list_named : (n : ℕ) (xs : List ℕ) → n ≤ list_places → length xs ≡ list_places → ((x : ℕ) → Memᴰ x (take n xs) → Memᴰ x stay) → ListNamed numbers n xs
-  list_named n xs few long h = record {
-    few = few;
-    each = λ i l. has_name (get_or xs i 0) (h (get_or xs i 0) (take_in n i xs l (omega arith)));
-  }
+-- all that stay
+pub all_named : (s : List ℕ) (n k : ℕ) → u16_at s 8 ≤ n → n ≤ u16_at s 8 → length (code_of s) ≤ k → firsts (firsts [] (tab n 0 (λ i. i))) (gather mentions (take k (code_of s))) ≡ staying_in s
+unfolding staying user_locals_of
+all_named s n k l g h =
+    let same : n ≡ u16_at s 8 = omega arith in
+    ap (λ (c : List Bytecode). firsts (firsts [] (tab n 0 (λ i. i))) (gather mentions c)) (take_all k (code_of s) h)
+    ∙ sym (firsts_append [] (tab n 0 (λ i. i)) (gather mentions (code_of s))) ∙ ap (λ (u : ℕ). staying u (code_of s)) same

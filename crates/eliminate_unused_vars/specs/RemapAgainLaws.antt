@@ -16,7 +16,8 @@ use Rattle.eliminate_unused_vars.specs.MoreListLaws.{map_own}
 use Rattle.eliminate_unused_vars.specs.StayingLaws.{number_lt}
 use Rattle.eliminate_unused_vars.specs.StayingOrderLaws.{tab_number}
 use Rattle.eliminate_unused_vars.specs.RemapSetLaws.{remap_at}
-use Rattle.eliminate_unused_vars.specs.RemapLaws.{Remaps, dst_stays, src_stays, abort_stays, new_dsts, new_srcs}
+use Rattle.eliminate_unused_vars.specs.Remaps.{Remaps}
+use Rattle.eliminate_unused_vars.specs.RemapLaws.{dst_stays, src_stays, abort_stays, new_dsts, new_srcs}
 
 -- ---- an instruction
 

@@ -21,7 +21,8 @@ use Rattle.sheet_writer.specs.BodyLaws.{Body}
 use Rattle.stackless_control_flow_graph.specs.AlikeLaws.{KeepsFlow, at_alike}
 use Rattle.eliminate_unused_vars.specs.Remap.{mentions, new_number, remap}
 use Rattle.eliminate_unused_vars.specs.StayingLaws.{number_lt}
-use Rattle.eliminate_unused_vars.specs.RemapLaws.{keeps_flow, padded_past, Remaps, dst_stays, src_stays, abort_stays, dsts_size, srcs_size, new_mentions}
+use Rattle.eliminate_unused_vars.specs.Remaps.{Remaps}
+use Rattle.eliminate_unused_vars.specs.RemapLaws.{keeps_flow, padded_past, dst_stays, src_stays, abort_stays, dsts_size, srcs_size, new_mentions}
 
 -- ---- check 5: the locals that are mentioned are below the count
 

@@ -11,7 +11,8 @@ use Rattle.livevar_analysis.specs.DecodeLaws.{flag_asked}
 use Rattle.eliminate_unused_vars.specs.Remap.{new_number, remap, remap_set}
 use Rattle.eliminate_unused_vars.specs.MoreListLaws.{take_in, map_take_at}
 use Rattle.eliminate_unused_vars.specs.RemapSetLaws.{Stays, stays_union, stays_minus, stays_set_of, remap_of, remap_none, remap_union, remap_minus, remap_single, remap_set_of}
-use Rattle.eliminate_unused_vars.specs.RemapLaws.{Remaps, dst_stays, src_stays, abort_stays, new_dsts, new_srcs}
+use Rattle.eliminate_unused_vars.specs.Remaps.{Remaps}
+use Rattle.eliminate_unused_vars.specs.RemapLaws.{dst_stays, src_stays, abort_stays, new_dsts, new_srcs}
 
 module _ (stay : List ℕ) (r : Bytecode) (ok : Remaps stay r) where
   -- the first destination

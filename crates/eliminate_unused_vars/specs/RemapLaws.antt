@@ -1,5 +1,5 @@
 -- An instruction under the new numbers: where it goes, its lists, what it mentions; and the code of an accepted sheet. Assumes nothing.
-use Rattle.std.specs.Prelude.{◌≡◌, refl, ◌⊎◌, Bool, true, ℕ, ◌+◌, ◌-◌, ◌≤◌, ◌<◌, drop, cond, List, [], ◌∷◌, ◌++◌, map, take, length, replicate}
+use Rattle.std.specs.Prelude.{◌≡◌, refl, Bool, true, ℕ, ◌+◌, ◌-◌, ◌≤◌, ◌<◌, drop, cond, List, [], ◌∷◌, ◌++◌, map, take, get_or, length, replicate}
 use Rattle.std.proofs.Common.{sym, ap, ap₂, ◌∙◌, subst, ⊎_elim, take_at, drop_at, get_or-take, get_or-drop, ext_get_or, arith, length-take, length-drop, length-take-le}
 use mathlib.Core.List.Memᴰ
 use mathlib.Core.List.{Memᴰ}
@@ -12,12 +12,13 @@ use Rattle.base.specs.ListLaws.{gather_in, by_test, get_d_in, in_get_d, copies_a
 use Rattle.base.specs.GrowLaws.{map_append}
 use Rattle.base.specs.PartLaws.{zeros_replicate, zeros_drop}
 use Rattle.stackless_bytecode.specs.declared.Bytecode.{Bytecode}
-use Rattle.stackless_bytecode.specs.Kinds.{Assign, Load, nop, dsts_of, srcs_of, is_exit, is_flagged, stop_ok, is_branch, falls_through, branch_dests, label_of}
+use Rattle.stackless_bytecode.specs.Kinds.{nop, at, dsts_of, srcs_of, is_exit, is_flagged, stop_ok, is_branch, falls_through, branch_dests, label_of}
 use Rattle.sheet.specs.Layout.{count_of, user_locals_of, record_start, record_at, decode, instruction_at, code_of, padded}
 use Rattle.sheet.specs.Checks.{check_sheet}
 use Rattle.sheet.specs.CheckLaws.{code_length}
 use Rattle.stackless_control_flow_graph.specs.AlikeLaws.{KeepsFlow}
 use Rattle.livevar_analysis.specs.InputLaws.{code_at, in_range, record_inside}
+use Rattle.eliminate_unused_vars.specs.Remaps.{Remaps}
 use Rattle.eliminate_unused_vars.specs.Remap.{abort_of, mentions, new_number, remap}
 use Rattle.eliminate_unused_vars.specs.Renumber.{hides_local, staying_in, renumbered_code}
 use Rattle.eliminate_unused_vars.specs.StayingLaws.{mentioned_stays}
@@ -58,15 +59,6 @@ module _ (n : ℕ) (xs : List ℕ) (few : n ≤ list_places) (size : length xs �
 
 -- ---- an instruction
 
--- its locals stay, its lists have all their places, and an Assign and a Load have a destination
-pub record Remaps (stay : List ℕ) (r : Bytecode) : Type 0 where
-  pub stays : (x : ℕ) → Memᴰ x (mentions r) → Memᴰ x stay
-  pub dsts_long : length r.dsts ≡ list_places
-  pub srcs_long : length r.srcs ≡ list_places
-  pub dsts_few : r.ndst ≤ list_places
-  pub srcs_few : r.nsrc ≤ list_places
-  pub first : (r.kind ≡ Assign) ⊎ (r.kind ≡ Load) → 1 ≤ r.ndst
-
 module _ (stay : List ℕ) (r : Bytecode) (ok : Remaps stay r) where
   -- its locals stay
   pub dst_stays : (x : ℕ) → Memᴰ x (dsts_of r) → Memᴰ x stay
@@ -80,6 +72,13 @@ module _ (stay : List ℕ) (r : Bytecode) (ok : Remaps stay r) where
   pub abort_stays : is_flagged r ≡ true → Memᴰ r.abort stay
   unfolding mentions
   abort_stays e = ok.stays r.abort (Memᴰ.append_right (dsts_of r ++ srcs_of r) (subst (λ (b : Bool). Memᴰ r.abort (cond b (r.abort ∷ []) [])) (sym e) (Memᴰ.head refl)))
+
+  -- so do the places that are listed
+  pub dsts_stay : (i : ℕ) → i < length (take r.ndst r.dsts) → Memᴰ (get_or (take r.ndst r.dsts) i 0) stay
+  dsts_stay i h = dst_stays (get_or (take r.ndst r.dsts) i 0) (unfold dsts_of in get_d_in (take r.ndst r.dsts) i 0 h)
+
+  pub srcs_stay : (i : ℕ) → i < length (take r.nsrc r.srcs) → Memᴰ (get_or (take r.nsrc r.srcs) i 0) stay
+  srcs_stay i h = src_stays (get_or (take r.nsrc r.srcs) i 0) (unfold srcs_of in get_d_in (take r.nsrc r.srcs) i 0 h)
 
   -- how many its lists have
   pub dsts_size : (g : ℕ → ℕ) → length (map g (dsts_of r)) ≡ r.ndst
@@ -138,6 +137,9 @@ module _ (s : List ℕ) (e : check_sheet s ≡ Accepted) where
         srcs_few = range.srcs.few;
         first = ⊎_elim range.assign range.load;
       }
+
+  pub remaps_at : (k : ℕ) → k < length (code_of s) → Remaps (staying_in s) (at (code_of s) k)
+  remaps_at k h = let low : k < count_of s = omega (arith, code_length s) in rw (code_at s e k low) (at_remaps k low)
 
   pub code_remaps : (r : Bytecode) → Memᴰ r (code_of s) → Remaps (staying_in s) r
   code_remaps r i =

@@ -22,7 +22,8 @@ use Rattle.eliminate_unused_vars.specs.Remap.{remap, remap_set}
 use Rattle.eliminate_unused_vars.specs.Renumbered.{remap_info}
 use Rattle.eliminate_unused_vars.specs.MoreListLaws.{take_map, drop_map, tab_map}
 use Rattle.eliminate_unused_vars.specs.RemapSetLaws.{Stays, stays_none, stays_union, remap_none, remap_union, remap_eqb}
-use Rattle.eliminate_unused_vars.specs.RemapLaws.{keeps_flow, Remaps}
+use Rattle.eliminate_unused_vars.specs.Remaps.{Remaps}
+use Rattle.eliminate_unused_vars.specs.RemapLaws.{keeps_flow}
 use Rattle.eliminate_unused_vars.specs.RemapExecuteLaws.{execute_remapped, execute_stays}
 
 -- ---- the sets of an instruction

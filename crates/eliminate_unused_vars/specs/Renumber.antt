@@ -1,4 +1,5 @@
 -- The call renumber: refusal 15, the new heading and the new sheet. Assumes nothing.
+use Rattle.base.specs.declared.Refusal.TheVariants.{LocalHidden}
 use Rattle.std.specs.Prelude.{ℕ, ◌+◌, ◌-◌, Bool, not, ◌||◌, ◌&&◌, List, ◌++◌, map, eqb, length}
 use Rattle.base.specs.Sizes.{set_bytes, block_bytes}
 use Rattle.base.specs.Lists.{first_bad}
@@ -35,7 +36,7 @@ renumbered_sheet s = sheet_of (renumbered_rest s) (renumbered_code s)
 
 -- 15: the first instruction that hides a local; 9: fewer bytes are lent than the sheet has
 abbrev pub check_open : List ℕ → ℕ → Verdict
-check_open s lent = check 15 (first_bad (count_of s) 0 (λ k. not (hides_local (at (code_of s) k)))) then lends lent (length s)
+check_open s lent = check LocalHidden (first_bad (count_of s) 0 (λ k. not (hides_local (at (code_of s) k)))) then lends lent (length s)
 
 -- the length of the new sheet and the sheet, where so many bytes are lent
 unfoldable pub renumber_reply : List ℕ → ℕ → Reply

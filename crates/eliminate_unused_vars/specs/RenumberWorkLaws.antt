@@ -1,10 +1,9 @@
 -- What the writers of a renumbered sheet leave: a set under the new numbers, number by number, and the new heading. Assumes nothing.
-use Rattle.std.specs.Prelude.{◌≡◌, refl, Bool, true, false, cond, List, [], ◌∷◌, ◌++◌, ℕ, ◌+◌, ◌-◌, ◌^◌, ◌≤◌, ◌<◌, get_or, length, take, drop}
-use Rattle.std.proofs.Common.{sym, ap, ap₂, ◌∙◌, subst, append-nil, append_assoc, zero-add, add-one, arith, length-append, length-drop, take-append-drop, get_or-take, drop_at, take_all, drop-drop, length-take-le}
+use Rattle.std.specs.Prelude.{◌≡◌, refl, Bool, true, false, cond, List, [], ◌∷◌, ◌++◌, ℕ, ◌+◌, ◌-◌, ◌^◌, ◌≤◌, get_or, length, take, drop}
+use Rattle.std.proofs.Common.{sym, ap, ap₂, ◌∙◌, subst, append-nil, append_assoc, zero-add, add-one, arith, length-append, length-drop, take-append-drop, drop_at, take_all, drop-drop, length-take-le}
 use Rattle.base.specs.Sizes.{set_bytes, refs_at, block_bytes}
 use Rattle.base.specs.Lists.{keep}
 use Rattle.base.specs.Bytes.{number, part, bytes_of}
-use Rattle.base.specs.ListLaws.{by_test}
 use Rattle.base.specs.GrowLaws.{keep_snoc}
 use Rattle.base.specs.PartLaws.{front_part}
 use Rattle.base.specs.WriteLaws.{part_more}
@@ -15,38 +14,34 @@ use Rattle.sheet_writer.specs.Written.{SheetWritten}
 use Rattle.livevar_analysis.specs.DecodeLaws.{set_of_end}
 use Rattle.eliminate_unused_vars.specs.Remap.{remap_set}
 use Rattle.eliminate_unused_vars.specs.Renumber.{staying_in, renumbered_code, rest_with, renumbered_rest, renumbered_sheet}
-use Rattle.eliminate_unused_vars.specs.Names.{Named}
 use Rattle.eliminate_unused_vars.specs.RenumberedHeadingLaws.{behind_refs}
 
 -- ---- a set under the new numbers
 
--- the first i numbers of the c locals that stay
-abbrev pub first_set : List ℕ → ℕ → ℕ → ℕ → ℕ
-first_set order c m i = set_of (keep i 0 (λ j. holds m (get_or (take c order) j 0)))
+-- the first i numbers of the locals that stay
+abbrev pub first_set : List ℕ → ℕ → ℕ → ℕ
+first_set stay m i = set_of (keep i 0 (λ j. holds m (get_or stay j 0)))
 
-pub set_none : (order : List ℕ) (c m : ℕ) → 0 ≡ first_set order c m 0
+pub set_none : (stay : List ℕ) (m : ℕ) → 0 ≡ first_set stay m 0
 unfolding set_of keep
-set_none order c m = refl
+set_none stay m = refl
 
-module _ (order : List ℕ) (c m i : ℕ) (h : i < c) where
-  abbrev test : ℕ → Bool
-  test j = holds m (get_or (take c order) j 0)
-
-  next : (b : Bool) → holds m (get_or order i 0) ≡ b → keep (i + 1) 0 test ≡ keep i 0 test ++ cond b (i ∷ []) []
+module _ (stay : List ℕ) (m i : ℕ) where
+  next : (b : Bool) → holds m (get_or stay i 0) ≡ b → keep (i + 1) 0 (λ j. holds m (get_or stay j 0)) ≡ keep i 0 (λ j. holds m (get_or stay j 0)) ++ cond b (i ∷ []) []
   next b e =
+      let test : ℕ → Bool = λ j. holds m (get_or stay j 0) in
       ap (λ (n : ℕ). keep n 0 test) (add-one i) ∙ keep_snoc i 0 test
-      ∙ ap (λ (n : ℕ). keep i 0 test ++ cond (test n) (n ∷ []) []) (zero-add i)
-      ∙ ap (λ (t : Bool). keep i 0 test ++ cond t (i ∷ []) []) (ap (holds m) (get_or-take c order i 0 h) ∙ e)
+      ∙ ap (λ (n : ℕ). keep i 0 test ++ cond (test n) (n ∷ []) []) (zero-add i) ∙ ap (λ (t : Bool). keep i 0 test ++ cond t (i ∷ []) []) e
 
-  pub set_next : (x n : ℕ) → x ≡ get_or order i 0 → n ≡ first_set order c m i → cond (holds m x) (union n (2 ^ i)) n ≡ first_set order c m (i + 1)
-  set_next x n ex en =
-      rw (ex, en)
-      (by_test (λ b. cond b (union (first_set order c m i) (2 ^ i)) (first_set order c m i) ≡ first_set order c m (i + 1)) (holds m (get_or order i 0))
-      (λ e. sym (ap set_of (next true e) ∙ set_of_end (keep i 0 test) i)) (λ e. sym (ap set_of (next false e ∙ append-nil (keep i 0 test)))))
+  pub set_put : holds m (get_or stay i 0) ≡ true → union (first_set stay m i) (2 ^ i) ≡ first_set stay m (i + 1)
+  set_put e = sym (ap set_of (next true e) ∙ set_of_end (keep i 0 (λ j. holds m (get_or stay j 0))) i)
 
-pub set_all : (order : List ℕ) (c m i : ℕ) → c ≤ length order → i ≡ c → first_set order c m i ≡ remap_set (take c order) m
+  pub set_kept : holds m (get_or stay i 0) ≡ false → first_set stay m i ≡ first_set stay m (i + 1)
+  set_kept e = sym (ap set_of (next false e ∙ append-nil (keep i 0 (λ j. holds m (get_or stay j 0)))))
+
+pub set_all : (stay : List ℕ) (m i : ℕ) → i ≡ length stay → first_set stay m i ≡ remap_set stay m
 unfolding remap_set
-set_all order c m i h e = ap (first_set order c m) (e ∙ sym (length-take-le c order h))
+set_all stay m i e = ap (first_set stay m) e
 
 -- ---- the heading
 
@@ -98,11 +93,14 @@ heading_put s h two refs n m long eh et er =
         ∙ part_more (take 6 h ++ two ++ part h 8 8) refs h refs_at set_bytes (omega (arith, six, size, eight, length-append (take 6 h) two, length-append (take 6 h ++ two) (part h 8 8)))
         ∙ simp append_assoc
 
-pub rest_is : (s : List ℕ) {numbers order : List ℕ} {c : ℕ} (x m : ℕ) → Named (staying_in s) numbers order c → x ≡ number (part s refs_at set_bytes) → m ≡ remap_set (take c order) x → rest_with s c m ≡ renumbered_rest s
+pub rest_is : (s : List ℕ) (n m x : ℕ) → n ≡ length (staying_in s) → m ≡ remap_set (staying_in s) x → x ≡ number (part s refs_at set_bytes) → rest_with s n m ≡ renumbered_rest s
 unfolding renumbered_rest refs_of
-rest_is s x m named ex em = rw (em, named.front, named.count, ex)
+rest_is s n m x en em ex = rw (en, em, ex)
 
 -- ---- the sheet
 
-pub new_written : (s head before : List ℕ) (r : ℕ) (after : List ℕ) → heading_rest head ≡ renumbered_rest s → SheetWritten (sheet_of (heading_rest head) (renumbered_code s)) before r after → SheetWritten (renumbered_sheet s) before r after
-new_written s head before r after e w = subst (λ (x : List ℕ). SheetWritten (sheet_of x (renumbered_code s)) before r after) e w
+pub new_written : (s stay head before : List ℕ) (r : ℕ) (after : List ℕ) → stay ≡ staying_in s → heading_rest head ≡ rest_with s (length stay) (remap_set stay (refs_of s))
+    → SheetWritten (sheet_of (heading_rest head) (renumbered_code s)) before r after → SheetWritten (renumbered_sheet s) before r after
+unfolding renumbered_rest
+new_written s stay head before r after all e w =
+    subst (λ (x : List ℕ). SheetWritten (sheet_of x (renumbered_code s)) before r after) (e ∙ ap (λ (l : List ℕ). rest_with s (length l) (remap_set l (refs_of s))) all) w

@@ -1,8 +1,8 @@
 -- The new sheet is what `Renumbered` says. Assumes nothing.
-use Rattle.std.specs.Prelude.{◌≡◌, ◌⊎◌, not, ℕ, ◌≤◌, ◌<◌, length, get_or, List, ◌++◌, map}
+use Rattle.base.specs.declared.Refusal.TheVariants.{LocalHidden}
+use Rattle.std.specs.Prelude.{◌≡◌, ◌⊎◌, not, ℕ, ◌≤◌, ◌<◌, length, get_or, List, ◌++◌, map, None}
 use Rattle.std.proofs.Common.{sym, ap₂, ◌∙◌, subst, ⊎_elim, inl, inr, arith, ap}
 use mathlib.Core.List.{Memᴰ}
-use Rattle.std.proofs.Math.Option.{none}
 use Rattle.base.specs.Sizes.{set_bytes, max_locals}
 use Rattle.base.specs.Bytes.{Bytes, bytes_of}
 use Rattle.base.specs.Lists.{tab, gather, first_bad}
@@ -110,8 +110,8 @@ module _ (s : List ℕ) (bytes : Bytes s) (e : check_sheet s ≡ Accepted) where
   rest_again = λ i.
       bytes_of 2 (locals_again i) ++ new.mid i ++ bytes_of set_bytes (refs_again i) ++ new.end i
 
-  module _ (clean : first_bad (count_of s) 0 (λ k. not (hides_local (at (code_of s) k))) ≡ none) where
-    clean_again : first_bad (count_of sheet) 0 (λ k. not (hides_local (at (code_of sheet) k))) ≡ none
+  module _ (clean : first_bad (count_of s) 0 (λ k. not (hides_local (at (code_of s) k))) ≡ None) where
+    clean_again : first_bad (count_of sheet) 0 (λ k. not (hides_local (at (code_of sheet) k))) ≡ None
     clean_again =
         all_none (count_of sheet) 0 (λ k. not (hides_local (at (code_of sheet) k)))
         (λ j l h. let low : j < count_of s = omega (arith, count_is) in
@@ -121,7 +121,7 @@ module _ (s : List ℕ) (bytes : Bytes s) (e : check_sheet s ≡ Accepted) where
     again_is : (lent : ℕ) → length sheet ≤ lent → renumber_reply sheet lent ≡ Done (length sheet) sheet
     unfolding renumber_reply
     again_is lent h =
-        call_goes _ _ new.accepted ∙ call_goes _ _ (sym (accepted_none 15 clean_again)) ∙ reply_done _ (lends_enough h)
+        call_goes _ _ new.accepted ∙ call_goes _ _ (sym (accepted_none LocalHidden clean_again)) ∙ reply_done _ (lends_enough h)
         ∙ ap (λ (t : List ℕ). Done (length t) t) (ap₂ sheet_of rest_again code_again)
 
     -- the theorem

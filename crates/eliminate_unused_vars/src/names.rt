@@ -1,108 +1,87 @@
-// The numbers of the locals that stay: first the user locals, then the others in the order of first mention, record by record. Assumes nothing.
-ghost use Rattle.std.specs.Prelude.{◌≡◌, ◌++◌, ℕ, ◌≤◌, get_or, take};
+// The locals of a sheet that stay, by their new numbers: first the user locals, then the others in the order of first mention, record by record. Assumes nothing.
+ghost use Rattle.std.specs.Prelude.{◌≡◌, List, ℕ, ◌<◌, ◌≤◌, get_or, length};
+ghost use mathlib.Core.List.{Memᴰ};
 ghost use Rattle.base.specs.Sizes.{max_locals};
-ghost use Rattle.base.specs.Lists.{tab, gather};
-ghost use Rattle.base.specs.Numbering.{Numbers, Gives};
-ghost use Rattle.base.specs.Refusals.{Accepted};
-ghost use Rattle.sheet.specs.Layout.{count_of, user_locals_of, code_of};
-ghost use Rattle.sheet.specs.Checks.{check_sheet};
-ghost use Rattle.livevar_analysis.specs.Rules.{ListedLocals, InRange};
-ghost use Rattle.eliminate_unused_vars.specs.Remap.{abort_of, mentions};
+ghost use Rattle.base.specs.Lists.{firsts};
+ghost use Rattle.livevar_analysis.specs.Rules.{InRange};
+ghost use Rattle.eliminate_unused_vars.specs.Remap.{mentions, new_number};
 ghost use Rattle.eliminate_unused_vars.specs.Renumber.{staying_in};
-ghost use Rattle.eliminate_unused_vars.specs.Names.{first_name, NameRoom, Named};
 
-use base::LIST_PLACES;
-use base::numbering::give_number;
-use base::width::u8_to_usize;
-use sheet::reader::instruction_at;
+use base::MAX_LOCALS;
+use base::numbering::Numbering;
+use sheet::accepted::AcceptedSheet;
+use sheet::reader::u16_at;
 use stackless_bytecode::Bytecode;
+use std::marker::Model;
 
-// The first number that is given: 0 is none.
-pub const FIRST_NAME: usize = 1;
+// Locals that have new numbers: seen as their list, in the order of the numbers.
+#[derive(Drop)]
+pub struct Names {
+    numbers: Numbering<MAX_LOCALS>,
+}
 
-// Numbers for the first `count` places of a list; how many locals have one then.
-fn name_list(
-    c: usize,
-    list: [u8; LIST_PLACES],
-    count: u8,
-    numbers: &mut [u16],
-    order: &mut [u16],
-) -> usize
-    requires { Numbers first_name numbers.old order.old c × NameRoom numbers.old order.old × ListedLocals count list }
-    ensures { Gives first_name (take count list) numbers.old order.old c numbers.new order.new result }
-{
-    let to = u8_to_usize(count);
-    let mut given = c;
-    let mut i = 0;
-    while i < to {
-        given = give_number(FIRST_NAME, given, u8_to_usize(list[i]), numbers, order);
-        i += 1;
+impl Model for Names {
+    ghost Value = { List ℕ };
+
+    ghost view = { λ a. a.numbers };
+}
+
+impl Names {
+    // All locals of a sheet that stay.
+    #[tactic(auto, unfolding(base::specs::Lists::firsts, base::specs::Lists::tab))]
+    pub fn of(sheet: AcceptedSheet<'_>) -> Names
+        ensures { result ≡ staying_in sheet.entry.bytes.now }
+    {
+        let mut numbers = Numbering::new();
+        for user in 0..u16_at(sheet.bytes, 8) {
+            numbers.give(user);
+        }
+        let mut names = Names { numbers };
+        for k in 0..sheet.count {
+            names.name_mentions(sheet.instruction(k));
+        }
+        names
     }
-    given
-}
 
-// A number for the abort local of a flagged Call.
-fn name_abort(c: usize, r: Bytecode, numbers: &mut [u16], order: &mut [u16]) -> usize
-    requires { Numbers first_name numbers.old order.old c × NameRoom numbers.old order.old × InRange r }
-    ensures { Gives first_name (abort_of r) numbers.old order.old c numbers.new order.new result }
-{
-    if r.is_flagged() {
-        return give_number(FIRST_NAME, c, u8_to_usize(r.abort), numbers, order);
+    // Numbers for the locals of a list that have none yet.
+    #[tactic(auto, using(crate::specs::NamesLaws::list_next), unfolding(base::specs::Lists::firsts))]
+    fn name_list(&mut self, list: &[u8])
+        requires { (i : ℕ) → i < length list.now → get_or list.now i 0 < max_locals }
+        ensures { self.new ≡ firsts self.old list.now }
+    {
+        for &local in list {
+            self.numbers.give(u16::from(local));
+        }
     }
-    c
-}
 
-// Numbers for what an instruction mentions: destinations, sources, the abort local of a flagged Call.
-fn name_mentions(c: usize, r: Bytecode, numbers: &mut [u16], order: &mut [u16]) -> usize
-    requires { Numbers first_name numbers.old order.old c × NameRoom numbers.old order.old × InRange r }
-    ensures { Gives first_name (mentions r) numbers.old order.old c numbers.new order.new result }
-{
-    let dsts = r.dsts;
-    let d = name_list(c, dsts, r.ndst, numbers, order);
-    let srcs = r.srcs;
-    let e = name_list(d, srcs, r.nsrc, numbers, order);
-    name_abort(e, r, numbers, order)
-}
-
-// Numbers for the user locals: their own.
-fn name_users(users: usize, numbers: &mut [u16], order: &mut [u16]) -> usize
-    requires { (users ≤ max_locals) × NameRoom numbers.old order.old × ((x : ℕ) → get_or numbers.old x 0 ≡ 0) }
-    ensures { Gives first_name (tab users 0 (λ i. i)) numbers.old order.old 0 numbers.new order.new result }
-{
-    let mut c = 0;
-    let mut i = 0;
-    while i < users {
-        c = give_number(FIRST_NAME, c, i, numbers, order);
-        i += 1;
+    // For what an instruction mentions: destinations, sources, the abort local of a flagged Call.
+    #[tactic(auto, using(base::specs::GrowLaws::firsts_append), unfolding(crate::specs::Remap::mentions, stackless_bytecode::specs::Kinds::dsts_of, stackless_bytecode::specs::Kinds::srcs_of, base::specs::Lists::firsts))]
+    fn name_mentions(&mut self, r: Bytecode)
+        requires { InRange r }
+        ensures { self.new ≡ firsts self.old (mentions r) }
+    {
+        self.name_list(&r.dsts[..usize::from(r.ndst)]);
+        self.name_list(&r.srcs[..usize::from(r.nsrc)]);
+        if r.is_flagged() {
+            self.numbers.give(u16::from(r.abort));
+        }
     }
-    c
-}
 
-// Numbers for what the n instructions of a sheet mention, behind the c that have one.
-fn name_code(s: &[u8], n: usize, c: usize, numbers: &mut [u16], order: &mut [u16]) -> usize
-    requires { (check_sheet s.now ≡ Accepted) × (n ≡ count_of s.now) × Numbers first_name numbers.old order.old c × NameRoom numbers.old order.old }
-    ensures { Gives first_name (gather mentions (code_of s.now)) numbers.old order.old c numbers.new order.new result }
-{
-    let mut given = c;
-    let mut k = 0;
-    while k < n {
-        given = name_mentions(given, instruction_at(s, k), numbers, order);
-        k += 1;
+    // The new number of a local that has one.
+    #[tactic(auto, unfolding(crate::specs::Remap::new_number))]
+    pub fn number(&self, local: u8) -> u8
+        requires { Memᴰ local self.now }
+        ensures { result ≡ new_number self.now local }
+    {
+        self.numbers.number_of(u16::from(local)) as u8
     }
-    given
-}
 
-// Numbers for all locals of a sheet that stay; how many they are.
-pub fn name_locals(
-    s: &[u8],
-    n: usize,
-    users: usize,
-    numbers: &mut [u16],
-    order: &mut [u16],
-) -> usize
-    requires { (check_sheet s.now ≡ Accepted) × (n ≡ count_of s.now) × (users ≡ user_locals_of s.now) × NameRoom numbers.old order.old × ((x : ℕ) → get_or numbers.old x 0 ≡ 0) }
-    ensures { Named (staying_in s.now) numbers.new order.new result }
-{
-    let c = name_users(users, numbers, order);
-    name_code(s, n, c, numbers, order)
+    // The locals that have numbers, in the order of these.
+    pub fn locals(&self) -> &[u16]
+        ensures order { result.now ≡ self.now }
+        ensures below { (i : ℕ) → i < length self.now → get_or self.now i 0 < max_locals }
+        ensures few { length self.now ≤ max_locals }
+    {
+        self.numbers.order()
+    }
 }

@@ -1,68 +1,50 @@
 // The rows of the flow table: six numbers for each block, by offset. Assumes nothing.
-ghost use Rattle.std.specs.Prelude.{◌≡◌, ◌++◌, ℕ, ◌+◌, ◌*◌, ◌≤◌, ◌<◌, length, get_or, take, drop};
-ghost use Rattle.base.specs.Lists.{gather};
-ghost use Rattle.base.specs.Sizes.{row_numbers, max_instructions};
-ghost use Rattle.stackless_control_flow_graph.specs.Arrays.{offsets_of, Near, BlockArrays, next_keys_in, row_from, row_in, HasRecord};
+ghost use Rattle.std.specs.Prelude.{◌≡◌, [], ◌∷◌, ◌++◌, ◌*◌, ◌≤◌, cond, length, drop};
+ghost use Rattle.base.specs.Sizes.{row_numbers};
+ghost use Rattle.stackless_bytecode.specs.Kinds.{at, is_exit};
+ghost use Rattle.stackless_control_flow_graph.specs.Arrays.{offsets_of, next_keys};
+ghost use Rattle.stackless_control_flow_graph.specs.Blocks.{Start};
+ghost use Rattle.stackless_control_flow_graph.specs.Blocks.{blocks_of, upper_of, keyed, row, flow_table};
+ghost use Rattle.sheet.specs.Code.{code_in};
 
 use base::ROW;
-use base::width::usize_to_u16;
-use sheet::reader;
 use stackless_control_flow_graph::Successors;
-use stackless_control_flow_graph::blocks::block_at;
-use stackless_control_flow_graph::keys::{EXIT_KEY, successor_keys};
-use stackless_control_flow_graph::next::{first_or, second_or, single};
+use stackless_control_flow_graph::keys::{EXIT_KEY, KeyedBlocks};
 
-// The successor keys of the block that ends at u: 1 at an exit, else those of its successors.
-fn next_keys(sheet: &[u8], goes: &[u16], u: usize, keys: &[u16]) -> Successors
-    requires { HasRecord sheet.now u × Near (length keys.now) goes.now u }
-    ensures { offsets_of result ≡ next_keys_in sheet.now goes.now keys.now u }
+// The successor keys of the block from `lower` on: 1 at an exit, else those of its successors.
+fn successor_keys(blocks: KeyedBlocks<'_>, lower: u16) -> Successors
+    requires { Start (code_in blocks.by_offset.sheet) lower }
+    ensures { offsets_of result ≡ cond (is_exit (at (code_in blocks.entry.by_offset.sheet) (upper_of (code_in blocks.entry.by_offset.sheet) lower))) (1 ∷ []) (next_keys (code_in blocks.entry.by_offset.sheet) lower) }
 {
-    let r = reader::instruction_at(sheet, u);
-    if r.is_exit() {
-        return single(EXIT_KEY);
+    let upper = usize::from(blocks.by_offset.upper(lower));
+    if blocks.by_offset.sheet.instruction(upper).is_exit() {
+        return Successors::One(EXIT_KEY);
     }
-    successor_keys(goes, u, keys)
+    blocks.next_keys(lower)
 }
 
-// The row of the block from l to u.
-fn write_row(sheet: &[u8], goes: &[u16], l: usize, u: usize, keys: &[u16], out: &mut [u16])
-    requires { HasRecord sheet.now u × (l < length keys.now) × Near (length keys.now) goes.now u × (length keys.now ≤ max_instructions) × (length out.old ≡ row_numbers) }
-    ensures { out.new ≡ row_from sheet.now goes.now keys.now l u }
+// The row of the block from `lower` on.
+fn write_row(blocks: KeyedBlocks<'_>, lower: u16, out: &mut [u16])
+    requires start { Start (code_in blocks.by_offset.sheet) lower }
+    requires six { length out.old ≡ row_numbers }
+    ensures { out.new ≡ row (code_in blocks.entry.by_offset.sheet) (keyed (code_in blocks.entry.by_offset.sheet)) lower }
 {
-    let e = next_keys(sheet, goes, u, keys);
-    out[0] = usize_to_u16(l);
-    out[1] = usize_to_u16(u);
-    out[2] = keys[l];
-    out[3] = first_or(e, 0);
-    out[4] = second_or(e, 0);
+    let next = successor_keys(blocks, lower);
+    out[0] = lower;
+    out[1] = blocks.by_offset.upper(lower);
+    out[2] = blocks.key(lower);
+    out[3] = next.first().unwrap_or(0);
+    out[4] = next.second().unwrap_or(0);
     out[5] = 0;
 }
 
-// The rows of all m blocks to the front of the table.
-pub fn write_rows(
-    sheet: &[u8],
-    goes: &[u16],
-    lowers: &[u16],
-    m: usize,
-    uppers: &[u16],
-    keys: &[u16],
-    table: &mut [u16],
-)
-    requires { BlockArrays goes.now lowers.now uppers.now m (length keys.now) × ((b : ℕ) → b < m → HasRecord sheet.now (get_or uppers.now (get_or lowers.now b 0) 0)) × (length keys.now ≤ max_instructions) × (row_numbers * m ≤ length table.old) }
-    ensures { table.new ≡ gather (row_in sheet.now goes.now uppers.now keys.now) (take m lowers.now) ++ drop (row_numbers * m) table.old }
+// The rows of all blocks to the front of the table. The rows are lent by index: of what is written through chunks_exact_mut a proof knows the length alone.
+pub fn write_rows(blocks: KeyedBlocks<'_>, table: &mut [u16])
+    requires { row_numbers * blocks_of (code_in blocks.by_offset.sheet) ≤ length table.old }
+    ensures { table.new ≡ flow_table (code_in blocks.entry.by_offset.sheet) ++ drop (row_numbers * blocks_of (code_in blocks.entry.by_offset.sheet)) table.old }
 {
-    let mut b = 0;
-    while b < m {
-        let k = block_at(lowers, uppers, b);
+    for (b, &lower) in blocks.by_offset.lowers().iter().enumerate() {
         let at = ROW * b;
-        write_row(
-            sheet,
-            goes,
-            k.lower,
-            k.upper,
-            keys,
-            &mut table[at..at + ROW],
-        );
-        b += 1;
+        write_row(blocks, lower, &mut table[at..at + ROW]);
     }
 }

@@ -1,93 +1,60 @@
--- The search for names one instruction a turn; what the call label replies, and that it means what it is to mean. Assumes nothing.
-use Rattle.std.specs.Prelude.{◌≡◌, refl, Bool, true, false, cond, not, ◌||◌, ℕ, ◌+◌, ◌≤◌, ◌<◌, eqb, get_or, length, drop, List, [], ◌∷◌}
-use Rattle.std.proofs.Common.{sym, ◌∙◌, subst, true≢false, add-one, arith, eq-eqb, ne_eqb, drop_of_length-le, drop-cons, ap}
-use Rattle.std.proofs.Math.Bool.{or-false}
+-- What both searches find of a label; what the call label replies, and that it means what it is to mean. Assumes nothing.
+use Rattle.std.specs.Prelude.{◌≡◌, refl, Bool, true, false, cond, not, ℕ, ◌≤◌, ◌<◌, length, List, [], Option, Some, None, Ok, Err}
+use Rattle.std.proofs.Common.{sym, ◌∙◌, subst, true≢false, arith, eq-eqb, ne_eqb, ap}
 use mathlib.Core.List.{Memᴰ}
 use Rattle.std.proofs.lemmas.Bool.{not-false}
+use Rattle.std.specs.Option.{is_some}
+use Rattle.base.specs.declared.Refusal.{Refusal}
 use Rattle.base.specs.Sizes.{max_instructions}
-use Rattle.base.specs.Lists.{gather, has, first_bad}
-use Rattle.base.specs.SearchLaws.{bad_lt, bad_fails}
-use Rattle.base.specs.GrowLaws.{has_append}
-use Rattle.base.specs.ListLaws.{by_test, has_in, in_has, gather_in, get_d_in}
-use Rattle.base.specs.Refusals.{Accepted, Refused, found_of, Done, result_of}
-use Rattle.base.specs.RefusalLaws.{found_at, found_none}
-use Rattle.base.specs.declared.Found.TheVariants.{At, Nothing}
+use Rattle.base.specs.Lists.{gather, has}
+use Rattle.base.specs.SearchLaws.{none_all, bad_lt, bad_fails}
+use Rattle.base.specs.ListLaws.{by_test, has_in, in_has, gather_in, in_gather, get_d_in, in_get_d}
+use Rattle.base.specs.Refusals.{Accepted, Done, answer_of}
 use Rattle.base.specs.ReplyLaws.{reply_refused, reply_done}
 use Rattle.stackless_bytecode.specs.declared.Bytecode.{Bytecode}
 use Rattle.stackless_bytecode.specs.declared.Lookup.{Lookup}
 use Rattle.stackless_bytecode.specs.declared.Lookup.TheVariants.{Named, Unnamed, Undefined}
-use Rattle.stackless_bytecode.specs.Kinds.{Label, nop, at, branch_dests, label_of}
-use Rattle.stackless_bytecode.specs.KindLaws.{by_dests, one_label, other_label, label_one}
-use Rattle.stackless_bytecode.specs.Slots.{no_label}
+use Rattle.stackless_bytecode.specs.Kinds.{nop, at, branch_dests, label_of}
 use Rattle.stackless_bytecode.specs.Labels.{lookup, way_of, offset_of, is_defined, label_offset}
 use Rattle.stackless_bytecode.specs.LookupLaws.{lookup_found, lookup_missing, is_defined_lem, defined, offset_is, named_by, named_at}
 use Rattle.sheet.specs.Layout.{code_of}
 use Rattle.sheet.specs.Checks.{check_sheet}
-use Rattle.sheet.specs.Shaped.{Shaped, code_size}
 use Rattle.sheet.specs.CheckLaws.{code_sound}
 use Rattle.sheet.specs.ValidLaws.{accepted_valid}
-use Rattle.sheet.specs.LabelLaws.{code_below}
+use Rattle.label.specs.Searches.{first_label, first_name}
 use Rattle.label.specs.LabelCall.{label_value, label_reply, way_in, offset_in, LabelMeaning}
-
--- ---- one instruction
-
--- the Label with a number
-pub label_has : (r : Bytecode) (l : ℕ) → eqb r.kind Label ≡ true → eqb l r.one ≡ has l (label_of r)
-unfolding has
-label_has r l e = sym (ap (has l) (one_label r e) ∙ or-false (eqb l r.one))
-
-pub other_has : (r : Bytecode) (l : ℕ) → eqb r.kind Label ≡ false → false ≡ has l (label_of r)
-unfolding has
-other_has r l e = sym (ap (has l) (other_label r e))
-
--- the labels that an instruction names are those of its two slots
-pub names_has : (r : Bytecode) (l : ℕ) → l < no_label → eqb l (get_or (branch_dests r) 0 no_label) || eqb l (get_or (branch_dests r) 1 no_label) ≡ has l (branch_dests r)
-unfolding has
-names_has r l h =
-    let none : eqb l no_label ≡ false = ne_eqb l no_label (λ e. omega arith) in
-    by_dests (λ xs. eqb l (get_or xs 0 no_label) || eqb l (get_or xs 1 no_label) ≡ has l xs) r
-    (ap (λ (b : Bool). eqb l r.one || b) (sym (or-false (eqb l r.two)))) (ap (λ (b : Bool). eqb l r.one || b) none) (ap (λ (b : Bool). b || b) none)
-
--- ---- one instruction a turn
-
-names_from : (code : List Bytecode) (l k : ℕ) → k < length code → has l (gather branch_dests (drop k code)) ≡ has l (branch_dests (at code k)) || has l (gather branch_dests (drop (k + 1) code))
-unfolding gather
-names_from code l k h =
-    ap (λ (rs : List Bytecode). has l (gather branch_dests rs)) (drop-cons code k nop h ∙ ap (λ (x : ℕ). at code k ∷ drop x code) (sym (add-one k)))
-    ∙ has_append l (branch_dests (at code k)) (gather branch_dests (drop (k + 1) code))
-
-module _ (code : List Bytecode) (l k : ℕ) where
-  pub names_here : k < length code → has l (branch_dests (at code k)) ≡ true → has l (gather branch_dests (drop k code)) ≡ true
-  names_here h e = names_from code l k h ∙ ap (λ (b : Bool). b || has l (gather branch_dests (drop (k + 1) code))) e
-
-  pub names_on : k < length code → has l (branch_dests (at code k)) ≡ false → has l (gather branch_dests (drop k code)) ≡ has l (gather branch_dests (drop (k + 1) code))
-  names_on h e = names_from code l k h ∙ ap (λ (b : Bool). b || has l (gather branch_dests (drop (k + 1) code))) e
-
-  pub names_end : length code ≤ k → has l (gather branch_dests (drop k code)) ≡ false
-  unfolding gather has
-  names_end h = ap (λ (rs : List Bytecode). has l (gather branch_dests rs)) (drop_of_length-le code h)
 
 -- ---- both searches
 
-module _ {s : List ℕ} {n : ℕ} (shaped : Shaped s n) (l : ℕ) where
-  abbrev others : ℕ → Bool
-  others k = not (has l (label_of (at (code_of s) k)))
+-- some instruction names the label where one is found
+names_found : (code : List Bytecode) (l : ℕ) (x : Option ℕ) → first_name code l ≡ x → has l (gather branch_dests code) ≡ is_some x
+unfolding first_name
+names_found code l None e =
+    by_test (λ b. b ≡ false) (has l (gather branch_dests code))
+    (λ t. absurd (let r = in_gather branch_dests code l (has_in l (gather branch_dests code) t) in
+    let p = in_get_d code r.0 nop r.1 in
+    let here : has l (branch_dests (at code p.0)) ≡ true = in_has l (branch_dests (at code p.0)) (subst (λ (x : Bytecode). Memᴰ l (branch_dests x)) (sym p.2) r.2) in
+    true≢false (sym (none_all (length code) 0 _ e p.0 (omega arith) (omega (arith, p.1))) ∙ ap not here)))
+    (λ t. refl)
+names_found code l (Some k) e =
+    in_has l (gather branch_dests code)
+    (gather_in branch_dests code (get_d_in code k nop (omega (arith, bad_lt (length code) 0 _ k e)))
+    (has_in l (branch_dests (at code k)) (not-false (has l (branch_dests (at code k))) (bad_fails (length code) 0 _ k e))))
 
-  whole : first_bad (length (code_of s)) 0 others ≡ first_bad n 0 others
-  whole = ap (λ (m : ℕ). first_bad m 0 others) (code_size shaped)
+-- what a label is, by its Label and by an instruction that names it
+abbrev pub looked : Option ℕ → Option ℕ → Lookup
+looked None named = Undefined
+looked (Some o) None = Unnamed o
+looked (Some o) (Some k) = Named o
 
-  pub look_missing : Nothing ≡ found_of (first_bad n 0 (λ k. not (has l (label_of (at (code_of s) k))))) → Undefined ≡ lookup (code_of s) l
-  look_missing e = sym (lookup_missing (code_of s) l (whole ∙ found_none _ e))
-
-  module _ (o : ℕ) (e : At o ≡ found_of (first_bad n 0 (λ k. not (has l (label_of (at (code_of s) k)))))) where
-    -- a number that a Label of the sheet has is a label's
-    pub look_low : ((i : ℕ) → get_or s i 0 < 256) → l < no_label
-    look_low bytes =
-        let h : o < n = omega (arith, bad_lt n 0 others o (found_at _ _ e)) in
-        omega (arith, label_one (at (code_of s) o) l (has_in l (label_of (at (code_of s) o)) (not-false _ (bad_fails n 0 others o (found_at _ _ e)))), (code_below shaped bytes o h).one)
-
-    pub look_found : (b : Bool) → b ≡ has l (gather branch_dests (code_of s)) → cond b (Named o) (Unnamed o) ≡ lookup (code_of s) l
-    look_found b q = sym (lookup_found (code_of s) l o (whole ∙ found_at _ _ e) ∙ ap (λ (x : Bool). cond x (Named o) (Unnamed o)) (sym q))
+pub lookup_searched : (code : List Bytecode) (l : ℕ) → lookup code l ≡ looked (first_label code l) (first_name code l)
+unfolding first_label
+lookup_searched code l = by (first_label code l) refl (first_name code l) refl
+  where
+    by : (x : Option ℕ) → first_label code l ≡ x → (y : Option ℕ) → first_name code l ≡ y → lookup code l ≡ looked x y
+    by None e y q = lookup_missing code l e
+    by (Some o) e None q = lookup_found code l o e ∙ ap (λ (b : Bool). cond b (Named o) (Unnamed o)) (names_found code l None q)
+    by (Some o) e (Some k) q = lookup_found code l o e ∙ ap (λ (b : Bool). cond b (Named o) (Unnamed o)) (names_found code l (Some k) q)
 
 -- ---- the number and its two parts
 
@@ -145,10 +112,10 @@ module _ (s : List ℕ) (accepted : check_sheet s ≡ Accepted) (l : ℕ) where
 
 -- ---- the reply
 
-pub label_refused : (s : List ℕ) (l num place : ℕ) → check_sheet s ≡ Refused num place → result_of (label_reply s l) ≡ record { number = num; value = place }
-unfolding result_of label_reply
-label_refused s l num place e = ap result_of (reply_refused (Done (label_value (lookup (code_of s) l)) []) e)
+pub label_refused : (s : List ℕ) (l : ℕ) (e : Refusal) → check_sheet s ≡ Err e → answer_of (label_reply s l) ≡ Err e
+unfolding label_reply
+label_refused s l e q = ap answer_of (reply_refused (Done (label_value (lookup (code_of s) l)) []) q)
 
-pub label_done : (s : List ℕ) (l : ℕ) → check_sheet s ≡ Accepted → result_of (label_reply s l) ≡ record { number = 0; value = label_value (lookup (code_of s) l) }
-unfolding result_of label_reply
-label_done s l e = ap result_of (reply_done (Done (label_value (lookup (code_of s) l)) []) e)
+pub label_done : (s : List ℕ) (l : ℕ) → check_sheet s ≡ Accepted → answer_of (label_reply s l) ≡ Ok (label_value (lookup (code_of s) l))
+unfolding label_reply
+label_done s l e = ap answer_of (reply_done (Done (label_value (lookup (code_of s) l)) []) e)

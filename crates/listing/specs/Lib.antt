@@ -3,7 +3,9 @@ pub mod Words
 pub mod Lines
 -- What the inner contracts say.
 pub mod Output
+pub mod Writer
 -- Laws.
 pub mod NumberLaws
 pub mod OutputLaws
+pub mod WriterLaws
 pub mod TextLaws

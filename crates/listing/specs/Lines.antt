@@ -1,35 +1,37 @@
 -- What the program livelist prints: a line for each instruction, then the count; or the refusal. How long that is at most, and what the call replies. Assumes nothing.
-use Rattle.std.specs.Prelude.{ℕ, suc, ◌+◌, ◌*◌, List, [], ◌∷◌, ◌++◌, length}
+use Rattle.std.specs.Prelude.{ℕ, suc, ◌+◌, ◌*◌, List, [], ◌∷◌, ◌++◌, length, codes, decimal, Ok, Err}
 use Rattle.base.specs.Sizes.{set_bytes, max_instructions}
-use Rattle.base.specs.Refusals.{Verdict, Accepted, Refused, lends, Reply, Done, reply}
+use Rattle.base.specs.declared.Refusal.{Refusal}
+use Rattle.base.specs.Refusals.{number_of, place_of, Verdict, lends, Reply, Done, reply}
 use Rattle.sheet.specs.Layout.{code_of, locals_of}
 use Rattle.sheet.specs.Checks.{check_sheet}
 use Rattle.livevar_analysis.specs.Analysis.{LiveVarInfo, Analyzed, analyze}
-use Rattle.listing.specs.Words.{ascii, hex, decimal, said}
+use Rattle.listing.specs.Words.{hex, said}
 
 -- ---- lines
 
 -- offset, before and after, one space apart
 unfoldable pub line : ℕ → LiveVarInfo → List ℕ
-line k i = decimal k ++ (ascii " " ++ hex i.before) ++ (ascii " " ++ hex i.after) ++ ascii "\n"
+line k i = decimal k ++ (codes " " ++ hex i.before) ++ (codes " " ++ hex i.after) ++ codes "\n"
 
-unfoldable pub lines : ℕ → List LiveVarInfo → List ℕ
-lines k [] = []
-lines k (i ∷ is) = line k i ++ lines (suc k) is
+-- a line for each instruction from offset k on
+unfoldable pub lines : (ℕ → LiveVarInfo → List ℕ) → ℕ → List LiveVarInfo → List ℕ
+lines line k [] = []
+lines line k (i ∷ is) = line k i ++ lines line (suc k) is
 
 -- ---- the text
 
 -- of an accepted sheet: the lines and the count
-unfoldable pub text_of : List LiveVarInfo → ℕ → List ℕ
-text_of infos taken = lines 0 infos ++ said (ascii "taken ") taken ++ ascii "\n"
+unfoldable pub text_of : (ℕ → LiveVarInfo → List ℕ) → List LiveVarInfo → ℕ → List ℕ
+text_of line infos taken = lines line 0 infos ++ said (codes "taken ") taken ++ codes "\n"
 
 -- of a refused one: one line
-unfoldable pub refused_text : ℕ → ℕ → List ℕ
-refused_text num place = said (ascii "refused ") num ++ said (ascii " ") place ++ ascii "\n"
+unfoldable pub refused_text : Refusal → List ℕ
+refused_text e = said (codes "refused ") (number_of e) ++ said (codes " ") (place_of e) ++ codes "\n"
 
 unfoldable pub printed : Verdict → Analyzed → List ℕ
-printed Accepted live = text_of live.info live.taken
-printed (Refused num place) live = refused_text num place
+printed (Ok _) live = text_of line live.info live.taken
+printed (Err e) live = refused_text e
 
 unfoldable pub livelist : List ℕ → List ℕ
 livelist s = printed (check_sheet s) (analyze (code_of s) (locals_of s))

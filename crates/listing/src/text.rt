@@ -1,61 +1,60 @@
 // The text of livelist: a line for each instruction and the count, or the refusal. Assumes nothing.
-ghost use Rattle.std.specs.Prelude.{◌≡◌, ◌++◌, ◌*◌, ◌≤◌, length};
-ghost use Rattle.base.specs.Sizes.{set_bytes, pair_bytes, max_instructions};
+ghost use Rattle.std.specs.Prelude.{◌≡◌, ℕ, ◌++◌, ◌*◌, ◌≤◌, List, length, codes};
 ghost use Rattle.base.specs.Bytes.{number};
-ghost use Rattle.livevar_analysis.specs.Analysis.{info_in, infos_of};
-ghost use Rattle.listing.specs.Words.{ascii, hex};
+ghost use Rattle.base.specs.Sizes.{set_bytes, pair_bytes, max_instructions};
+ghost use Rattle.livevar_analysis.specs.Analysis.{LiveVarInfo, info_in, infos_of};
 ghost use Rattle.listing.specs.Lines.{line, text_of, refused_text};
-ghost use Rattle.listing.specs.Output.{Wrote};
+ghost use Rattle.listing.specs.Writer.{◌with_text◌};
 
-use crate::numbers;
-use crate::output::{put_bytes, put_decimal, put_number, put_total};
-use base::width::u16_to_u32;
-use base::{PAIR_BYTES, SET_BYTES};
+use crate::writer::Writer;
+use base::{PAIR_BYTES, Refusal, SET_BYTES};
 
-// A space, and two digits a byte.
-const SPACED_HEX: usize = 1 + 2 * SET_BYTES;
+// A line of the live sets.
+pub trait LiveLine {
+    ghost line: { ℕ → LiveVarInfo → List ℕ };
 
-// A space, and the set in bytes p in hex.
-pub fn put_set(p: &[u8], out: &mut [u8], at: usize) -> usize
-    requires { length p.now ≡ set_bytes }
-    ensures { Wrote out.old at (ascii " " ++ hex (number p.now)) out.new result }
-{
-    let mut digits = [0u8; SPACED_HEX];
-    let n = numbers::put_set(p, &mut digits, 0);
-    put_bytes(&digits[..n], out, at)
+    // Of the instruction at offset k, whose sets are in `pair`.
+    fn put_line(k: u32, pair: &[u8], out: &mut Writer)
+        requires { length pair.now ≡ pair_bytes }
+        ensures { out.new ≡ out.old with_text line k (info_in pair.now) };
 }
 
-// The line of instruction k, whose sets are in p.
-fn put_line(k: u32, p: &[u8], out: &mut [u8], at: usize) -> usize
-    requires { length p.now ≡ pair_bytes }
-    ensures { Wrote out.old at (line k (info_in p.now)) out.new result }
-{
-    let a = put_decimal(k, out, at);
-    let b = put_set(&p[0..SET_BYTES], out, a);
-    let e = put_set(&p[SET_BYTES..PAIR_BYTES], out, b);
-    put_bytes(b"\n", out, e)
+// Offset, before and after.
+pub struct Hex;
+
+impl LiveLine for Hex {
+    ghost line = { line };
+
+    #[tactic(auto, using(crate::specs::WriterLaws::texts), unfolding(crate::specs::Lines::line, livevar_analysis::specs::Analysis::info_in))]
+    fn put_line(k: u32, pair: &[u8], out: &mut Writer) {
+        let (before, after) = pair.split_at(SET_BYTES);
+        out.put_decimal(k);
+        out.put_set(before);
+        out.put_set(after);
+        out.put(b"\n");
+    }
 }
 
 // The text of an accepted sheet, from the bytes of the sets of its n instructions and the count of blocks taken.
-pub fn put_live(sets: &[u8], n: usize, taken: u32, out: &mut [u8], at: usize) -> usize
+#[tactic(auto, using(crate::specs::WriterLaws::texts, crate::specs::TextLaws::line_steps), unfolding(crate::specs::Lines::text_of))]
+pub fn put_live<L: LiveLine>(sets: &[u8], n: usize, taken: u32, out: &mut Writer)
     requires { (n ≤ max_instructions) × (pair_bytes * n ≤ length sets.now) }
-    ensures { Wrote out.old at (text_of (infos_of n sets.now) taken) out.new result }
+    ensures { out.new ≡ out.old with_text text_of L.line (infos_of n sets.now) taken }
 {
-    let mut e = at;
-    let mut k = 0;
-    while k < n {
-        let from = PAIR_BYTES * k;
-        e = put_line(k as u32, &sets[from..from + PAIR_BYTES], out, e);
-        k += 1;
+    // A range: of what chunks_exact gives, only the length is known.
+    for k in 0..n {
+        L::put_line(k as u32, &sets[PAIR_BYTES * k..][..PAIR_BYTES], out);
     }
-    put_total(b"taken ", taken, out, e)
+    out.put_number(b"taken ", taken);
+    out.put(b"\n");
 }
 
 // The line of a refused one.
-pub fn put_refused(number: u16, place: u16, out: &mut [u8], at: usize) -> usize
-    ensures { Wrote out.old at (refused_text number place) out.new result }
+#[tactic(auto, using(crate::specs::WriterLaws::texts), unfolding(crate::specs::Lines::refused_text))]
+pub fn put_refused(refusal: Refusal, out: &mut Writer)
+    ensures { out.new ≡ out.old with_text refused_text refusal }
 {
-    let a = put_number(b"refused ", u16_to_u32(number), out, at);
-    let e = put_number(b" ", u16_to_u32(place), out, a);
-    put_bytes(b"\n", out, e)
+    out.put_number(b"refused ", u32::from(refusal.number()));
+    out.put_number(b" ", u32::from(refusal.place()));
+    out.put(b"\n");
 }

@@ -3,7 +3,7 @@
 
 use base::READ_BYTES;
 use live_text::livelist::{TEXT_BYTES, put_livelist};
-use streams::{Input, read_input};
+use streams::read_input;
 
 // Prints the text of a sheet.
 fn print<R: Print + Eprint>(rt: &R, sheet: &[u8]) {
@@ -17,9 +17,9 @@ fn print<R: Print + Eprint>(rt: &R, sheet: &[u8]) {
 fn main(rt: HostRuntime) {
     let mut sheet = [0u8; READ_BYTES];
     match read_input(&mut rt.stdin(), &mut sheet) {
-        Input::Failed => {
+        Ok(n) => print(&rt, &sheet[..n]),
+        Err(_) => {
             let _ = rt.eprint("livelist: standard input cannot be read\n");
         }
-        Input::Bytes(n) => print(&rt, &sheet[..n]),
     }
 }

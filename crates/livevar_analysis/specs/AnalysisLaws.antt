@@ -22,7 +22,8 @@ use Rattle.livevar_analysis.specs.Analysis.{execute_all, rest_of, out_of, state_
 use Rattle.base.specs.Sizes.{taken_bound}
 use Rattle.base.specs.ListLaws.{map_in, in_map, in_take, in_drop, get_d_in, get_d_tab, length_tab, in_tab, tab_in, place_lt, get_d_place, place_get_d}
 use Rattle.stackless_bytecode.specs.Sound.{Sound}
-use Rattle.stackless_control_flow_graph.specs.BlockLaws.{Last, Start, succs_mid, succs_start, upper_le, upper_lt, upper_last, upper_next, upper_stop, lower_start, lower_next, lower_starts, lower_le, upper_lower, keyed_in, in_keyed, keyed_distinct}
+use Rattle.stackless_control_flow_graph.specs.BlockLaws.{Last, succs_mid, succs_start, upper_le, upper_lt, upper_last, upper_next, upper_stop, lower_start, lower_next, lower_starts, lower_le, upper_lower, keyed_in, in_keyed, keyed_distinct}
+use Rattle.stackless_control_flow_graph.specs.Blocks.{Start}
 use Rattle.stackless_control_flow_graph.specs.GraphLaws.{keys_once}
 use Rattle.livevar_analysis.specs.BlockRuleLaws.{obeys_post, preds_in, Edge, in_preds, get_d_map_lt, map_same, before_mono, before_lt, behind, rest_is, behind_last, behind_mid, by_last, sides_by}
 

@@ -1,18 +1,16 @@
 -- A decoded rule does what the live rule of its instruction says, and so does each rule in the slice. Assumes nothing.
-use Rattle.std.specs.Prelude.{◌≡◌, refl, ◌⊎◌, Bool, true, cond, not, List, [], ◌∷◌, ◌++◌, ℕ, ◌+◌, ◌*◌, ◌^◌, ◌≤◌, ◌<◌, get_or, length, take, false, eqb}
-use Rattle.std.proofs.Common.{sym, ap, ◌∙◌, inl, inr, not-suc-le-zero, add-one, arith, take-suc, ⊎_elim, eq-eqb, ne_eqb}
-use Rattle.base.specs.Sizes.{set_words}
+use Rattle.std.specs.Prelude.{◌≡◌, refl, ◌⊎◌, Bool, true, cond, List, [], ◌∷◌, ◌++◌, ℕ, ◌+◌, ◌^◌, ◌≤◌, ◌<◌, get_or, set, length, take, false, eqb}
+use Rattle.std.proofs.Common.{sym, ap, ◌∙◌, not-suc-le-zero, add-one, arith, get_or-set_same, get_or-set_other, take-suc, ⊎_elim, eq-eqb, ne_eqb}
 use Rattle.base.specs.ListLaws.{by_test, by_eq}
 use Rattle.dataflow_domains.specs.Mask.{bit, holds, union, minus, set_of}
 use Rattle.dataflow_domains.specs.MaskLaws.{ext, bit_union, bit_minus, bit_empty, bit_self, bit_other, bit_lt, minus_none}
 use Rattle.dataflow_domains.specs.HoldsLaws.{holds_true, holds_false}
-use Rattle.dataflow_domains.specs.Sets.{Stored}
-use Rattle.dataflow_domains.specs.StoredLaws.{stored_here, stored_other}
 use Rattle.stackless_bytecode.specs.declared.Bytecode.{Bytecode}
 use Rattle.stackless_bytecode.specs.Kinds.{Assign, Call, Ret, Load, Branch, Abort, Prop, at, dsts_of, srcs_of, is_flagged}
 use Rattle.livevar_analysis.specs.Live.{assigned, called, execute}
 use Rattle.livevar_analysis.specs.RuleLaws.{assign_rule, load_rule}
-use Rattle.livevar_analysis.specs.Rules.{applied, rule_sets, rule_at, Ruled, RuleRoom, RulePut}
+use Rattle.livevar_analysis.specs.Rules.{applied, no_rule, rule_by, rule_at, Ruled}
+use Rattle.livevar_analysis.specs.declared.rules.Rule.{Rule}
 
 -- ---- the set of a list, one place after the other
 
@@ -98,68 +96,28 @@ module _ (r : Bytecode) (kills gens m : ℕ) where
   decoded_sources k e f = rw (e, f) (applied_sources (set_of (take r.nsrc r.srcs)) m ∙ sym (sources_is k))
 
   -- no kind that the rules name
-  pub none_is : (r.kind ≡ Assign → ⊥) → (r.kind ≡ Call → ⊥) → ((r.kind ≡ Ret) ⊎ ((r.kind ≡ Branch) ⊎ ((r.kind ≡ Abort) ⊎ (r.kind ≡ Prop))) → ⊥) → (r.kind ≡ Load → ⊥) → execute r m ≡ m
+  pub none_is : (r.kind ≡ Assign → ⊥) → (r.kind ≡ Call → ⊥) → (r.kind ≡ Ret → ⊥) → (r.kind ≡ Load → ⊥) → (r.kind ≡ Branch → ⊥) → (r.kind ≡ Abort → ⊥) → (r.kind ≡ Prop → ⊥) → execute r m ≡ m
   unfolding execute
-  none_is a b s l =
-      let two : eqb r.kind Ret ≡ false = ne_eqb _ 2 (λ e. s (inl e)) in
-      let four : eqb r.kind Branch ≡ false = ne_eqb _ 4 (λ e. s (inr (inl e))) in
-      let seven : eqb r.kind Abort ≡ false = ne_eqb _ 7 (λ e. s (inr (inr (inl e)))) in
-      let eleven : eqb r.kind Prop ≡ false = ne_eqb _ 11 (λ e. s (inr (inr (inr e)))) in
-      rw (ne_eqb _ 0 a, ne_eqb _ 1 b, ne_eqb _ 3 l, two, four, seven, eleven)
+  none_is a b c d e f g = rw (ne_eqb _ 0 a, ne_eqb _ 1 b, ne_eqb _ 3 d, ne_eqb _ 2 c, ne_eqb _ 4 e, ne_eqb _ 7 f, ne_eqb _ 11 g)
 
 -- nothing goes out, nothing comes in
 pub applied_none : (kills gens m : ℕ) → kills ≡ 0 → gens ≡ 0 → applied false kills gens m ≡ m
 applied_none kills gens m e f = rw (e, f) (applied_load 0 m ∙ minus_none m)
 
--- a rule is stored as three sets
-pub rule_put : (rules : List ℕ) (k kill gen flag : ℕ) (assign : Bool) (rules₁ rules₂ rules₃ : List ℕ) → RuleRoom (k + 1) rules → not (eqb flag 0) ≡ assign
-    → Stored rules (rule_sets * k) kill rules₁ → Stored rules₁ (rule_sets * k + 1) gen rules₂ → Stored rules₂ (rule_sets * k + 2) flag rules₃ → RulePut rules k kill gen assign rules₃
-rule_put rules k kill gen flag assign rules₁ rules₂ rules₃ room is a b c = record {
-  killed = stored_other _ _ _ _ c n i2 f2 (rule_sets * k) i0 (λ e. omega arith) ∙ stored_other _ _ _ _ b n i1 f1 (rule_sets * k) i0 (λ e. omega arith) ∙ stored_here _ _ _ _ a n i0 f0;
-  genned = stored_other _ _ _ _ c n i2 f2 (rule_sets * k + 1) i1 (λ e. omega arith) ∙ stored_here _ _ _ _ b n i1 f1;
-  flagged = ap (λ (x : ℕ). not (eqb x 0)) (stored_here _ _ _ _ c n i2 f2) ∙ is;
-  others = λ i h. stored_other _ _ _ _ c n i2 f2 i (omega arith) (λ e. omega arith) ∙ stored_other _ _ _ _ b n i1 f1 i (omega arith) (λ e. omega arith) ∙ stored_other _ _ _ _ a n i0 f0 i (omega arith) (λ e. omega arith);
-}
-  where
-    n : ℕ
-    n = rule_sets * k + 3
-
-    i0 : rule_sets * k < rule_sets * k + 3
-    i0 = omega arith
-
-    i1 : rule_sets * k + 1 < rule_sets * k + 3
-    i1 = omega arith
-
-    i2 : rule_sets * k + 2 < rule_sets * k + 3
-    i2 = omega arith
-
-    f0 : (rule_sets * k + 3) * set_words ≤ length rules
-    f0 = omega (arith, room.fit)
-
-    f1 : (rule_sets * k + 3) * set_words ≤ length rules₁
-    f1 = omega (arith, room.fit, a.long)
-
-    f2 : (rule_sets * k + 3) * set_words ≤ length rules₂
-    f2 = omega (arith, room.fit, a.long, b.long)
-
 -- ---- the loop: the rules of the first n instructions are in the slice
 
-pub record RuledTo (code : List Bytecode) (n : ℕ) (rules : List ℕ) : Type 0 where
+pub record RuledTo (code : List Bytecode) (n : ℕ) (rules : List Rule) : Type 0 where
   pub each : (k m : ℕ) → k < n → rule_at rules k m ≡ execute (at code k) m
 
-pub ruled_none : (code : List Bytecode) (rules : List ℕ) → RuledTo code 0 rules
+pub ruled_none : (code : List Bytecode) (rules : List Rule) → RuledTo code 0 rules
 ruled_none code rules = record { each = λ k m h. absurd (not-suc-le-zero h) }
 
-pub ruled_all : (code : List Bytecode) (n : ℕ) (rules : List ℕ) → length code ≤ n → RuledTo code n rules → Ruled code rules
+pub ruled_all : (code : List Bytecode) (n : ℕ) (rules : List Rule) → length code ≤ n → RuledTo code n rules → Ruled code rules
 ruled_all code n rules l r = record { each = λ k m h. r.each k m (omega arith) }
 
 -- one rule more
-pub ruled_more : (code : List Bytecode) (n : ℕ) (rules : List ℕ) (kill gen : ℕ) (assign : Bool) (rules₁ : List ℕ) → RulePut rules n kill gen assign rules₁
-    → ((m : ℕ) → applied assign kill gen m ≡ execute (at code n) m) → RuledTo code n rules → RuledTo code (n + 1) rules₁
-ruled_more code n rules kill gen assign rules₁ put is r = record { each = λ k m h. by_eq k n (λ e. here k m e) (λ g. other k m (omega arith)) }
-  where
-    here : (k m : ℕ) → k ≡ n → rule_at rules₁ k m ≡ execute (at code k) m
-    here k m e = rw (e, put.killed, put.genned, put.flagged) (is m)
-
-    other : (k m : ℕ) → k < n → rule_at rules₁ k m ≡ execute (at code k) m
-    other k m h = rw (put.others (rule_sets * k) (omega arith), put.others (rule_sets * k + 1) (omega arith), put.others (rule_sets * k + 2) (omega arith)) (r.each k m h)
+pub ruled_more : (code : List Bytecode) (n : ℕ) (rules : List Rule) (rule : Rule) → n < length rules → ((m : ℕ) → rule_by rule m ≡ execute (at code n) m) → RuledTo code n rules
+    → RuledTo code (n + 1) (set rules n rule)
+ruled_more code n rules rule inside is r = record {
+  each = λ k m h. by_eq k n (λ e. rw (e, get_or-set_same rules n rule no_rule inside) (is m)) (λ g. rw (get_or-set_other rules n k rule no_rule g) (r.each k m (omega arith)));
+}

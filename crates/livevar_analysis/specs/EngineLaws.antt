@@ -1,18 +1,18 @@
 -- What the engine's loops are to the definitions: a rule, the rules of a block, handing on, and one key. Assumes nothing.
-use Rattle.std.specs.Prelude.{◌≡◌, ◌⊎◌, Bool, true, false, cond, not, ◌&&◌, List, [], ◌∷◌, ◌++◌, map, ℕ, zero, suc, ◌+◌, ◌-◌, ◌*◌, ◌≤◌, ◌<◌, eqb, get_or, length, take, drop, refl}
+use Rattle.std.specs.Prelude.{◌≡◌, ◌⊎◌, Bool, true, false, cond, ◌&&◌, List, [], ◌∷◌, ◌++◌, map, ℕ, zero, suc, ◌+◌, ◌-◌, ◌≤◌, ◌<◌, eqb, get_or, length, take, drop, refl}
 use Rattle.std.proofs.Common.{sym, ap, ap₂, ◌∙◌, subst, inl, inr, add-one, arith, length-drop, take-suc, take_all, get_or-drop}
 use Rattle.std.proofs.lemmas.List.{length-map}
-use Rattle.base.specs.Sizes.{set_words, max_number}
+use Rattle.base.specs.Sizes.{max_number}
 use Rattle.base.specs.Lists.{over, tab}
 use Rattle.base.specs.ListLaws.{over_append, get_d_in}
 use Rattle.dataflow_domains.specs.Mask.{union, minus}
-use Rattle.dataflow_domains.specs.Sets.{stored_set, sets_of}
-use Rattle.dataflow_analysis.specs.declared.Cursor.{Cursor}
+use Rattle.dataflow_domains.specs.Sets.{mask}
+use Rattle.dataflow_analysis.specs.declared.Worklist.{Worklist}
 use Rattle.dataflow_analysis.specs.Worklist.{State, news, receive}
 use Rattle.dataflow_analysis.specs.Lattice.{masks}
-use Rattle.dataflow_analysis.specs.Queue.{waiting, state_of, news_at, Received}
 use Rattle.dataflow_analysis.specs.QueueLaws.{list_length}
-use Rattle.dataflow_analysis.specs.ReceiptLaws.{news_at_lem}
+use Rattle.dataflow_analysis.specs.Receipt.{state_of, state, news_at, SameSlices, Received}
+use Rattle.dataflow_analysis.specs.ReceiptLaws.{same_slices, same_then}
 use Rattle.stackless_bytecode.specs.declared.Bytecode.{Bytecode}
 use Rattle.stackless_bytecode.specs.Kinds.{at, nop}
 use Rattle.stackless_bytecode.specs.Successors.{successors}
@@ -23,28 +23,28 @@ use Rattle.stackless_control_flow_graph.specs.Graph.{Bounds}
 use Rattle.stackless_control_flow_graph.specs.BlockLaws.{upper_lt, in_keyed}
 use Rattle.livevar_analysis.specs.Live.{execute}
 use Rattle.livevar_analysis.specs.Analysis.{execute_all, rest_of, out_of}
-use Rattle.livevar_analysis.specs.Rules.{applied, rule_sets, rule_at}
-use Rattle.livevar_analysis.specs.Engine.{RunTables, state_at, CanHand, HandedOn, CanOut, given, leads, CanHandKey}
+use Rattle.livevar_analysis.specs.Rules.{applied, rule_by}
+use Rattle.livevar_analysis.specs.declared.rules.Rule.{Rule}
+use Rattle.livevar_analysis.specs.declared.tables.Tables.{Tables}
+use Rattle.livevar_analysis.specs.Engine.{RunTables, CanHand, HandedOn, CanOut, given, leads, CanHandKey}
 
 -- ---- one rule
 
-module _ (rules : List ℕ) (k m kill rest flag : ℕ) (is : kill ≡ stored_set rules (rule_sets * k)) (left : rest ≡ minus m kill) (flag_is : flag ≡ stored_set rules (rule_sets * k + 2)) where
+module _ (r : Rule) (m rest : ℕ) (left : rest ≡ minus m (mask r.kills)) where
   -- an Assign whose destination is not in the set
-  pub rule_kept : not (eqb flag 0) ≡ true → eqb rest m ≡ true → m ≡ rule_at rules k m
+  pub rule_kept : r.assign ≡ true → eqb rest m ≡ true → m ≡ rule_by r m
   unfolding applied
-  rule_kept f e = sym (rw (← flag_is, f, ← is, ← left, e))
+  rule_kept a e = sym (rw (a, ← left, e))
 
   -- any other
-  pub rule_done : (gen r : ℕ) → (not (eqb flag 0) ≡ false) ⊎ (eqb rest m ≡ false) → gen ≡ stored_set rules (rule_sets * k + 1) → r ≡ union gen rest → r ≡ rule_at rules k m
-  rule_done gen r why g e = e ∙ sym (done why)
+  pub rule_done : (r.assign ≡ false) ⊎ (eqb rest m ≡ false) → union (mask r.gens) rest ≡ rule_by r m
+  unfolding applied
+  rule_done (inl a) = rw (a, ← left)
+  rule_done (inr e) = rw (← left, e) (sym (either r.assign))
     where
-      either : (b : Bool) → cond (b && false) m (union gen rest) ≡ union gen rest
+      either : (b : Bool) → cond (b && false) m (union (mask r.gens) rest) ≡ union (mask r.gens) rest
       either true = refl
       either false = refl
-
-      done : (not (eqb flag 0) ≡ false) ⊎ (eqb rest m ≡ false) → rule_at rules k m ≡ union gen rest
-      done (inl f) = unfold applied in rw (← flag_is, f, ← is, ← left, ← g)
-      done (inr t) = unfold applied in rw (← flag_is, ← is, ← left, ← g, t) (either (not (eqb flag 0)))
 
 -- ---- the rules of a block, from its end to its start
 
@@ -71,70 +71,53 @@ execute_none code lower k m h = let none : k - lower ≡ 0 = omega arith in ap (
 
 -- ---- handing on: the loop's invariant, after i of the nodes ps have received m
 
-pub record Handing (n : ℕ) (sets₀ met₀ q₀ : List ℕ) (c₀ : Cursor) (ps : List ℕ) (m : ℕ) (sets met q : List ℕ) (c : Cursor) (i : ℕ) : Type 0 where
-  pub state : state_at n sets met q c ≡ over (receive m) (state_at n sets₀ met₀ q₀ c₀) (take i ps)
-  pub same_head : c.head ≡ c₀.head
-  pub list_fits : c.head + c.len ≤ length q₀
+pub record Handing (w₀ : Worklist) (ps : List ℕ) (m : ℕ) (w : Worklist) (i : ℕ) : Type 0 where
+  pub state_is : state w ≡ over (receive m) (state w₀) (take i ps)
+  pub same_head : w.cursor.head ≡ w₀.cursor.head
   pub within : i ≤ length ps
-  pub sets_kept : length sets ≡ length sets₀
-  pub met_kept : length met ≡ length met₀
-  pub q_kept : length q ≡ length q₀
+  pub same : SameSlices w₀ w
 
-at_taken : (n : ℕ) (sets met q : List ℕ) (c : Cursor) → (state_at n sets met q c).taken ≡ c.head
+-- how many wait
+pub waits : (w : Worklist) → length (state w).list ≡ w.cursor.len
 unfolding state_of
-at_taken n sets met q c = refl
+waits w = list_length w.queue.now w.cursor w.fits
 
-at_list : (n : ℕ) (sets met q : List ℕ) (c : Cursor) → (state_at n sets met q c).list ≡ waiting q c
+at_taken : (w : Worklist) → (state w).taken ≡ w.cursor.head
 unfolding state_of
-at_list n sets met q c = refl
+at_taken w = refl
 
 over_more : {A B : Type 0} (f : B → A → B) (b : B) (xs : List A) (i : ℕ) (d : A) → i < length xs → over f b (take (i + 1) xs) ≡ f (over f b (take i xs)) (get_or xs i d)
-unfolding over
 over_more f b xs i d h =
     ap (λ (n : ℕ). over f b (take n xs)) (add-one i) ∙ ap (over f b) (take-suc xs i d h) ∙ over_append f b (take i xs) (get_or xs i d ∷ [])
 
-module _ (n : ℕ) (sets₀ met₀ q₀ : List ℕ) (c₀ : Cursor) (ps : List ℕ) (m : ℕ) (can : CanHand n sets₀ met₀ q₀ c₀ ps m) where
-  pub hand_none : Handing n sets₀ met₀ q₀ c₀ ps m sets₀ met₀ q₀ c₀ 0
-  unfolding over
-  hand_none = record { state = refl; same_head = refl; list_fits = can.list_fits; within = omega arith; sets_kept = refl; met_kept = refl; q_kept = refl }
+module _ (w₀ : Worklist) (ps : List ℕ) (m : ℕ) (can : CanHand w₀ ps m) where
+  pub hand_none : Handing w₀ ps m w₀ 0
+  hand_none = record { state_is = refl; same_head = refl; within = omega arith; same = same_slices w₀ }
 
-  module _ (sets met q : List ℕ) (c : Cursor) (i : ℕ) (h : Handing n sets₀ met₀ q₀ c₀ ps m sets met q c i) (more : i < length ps) where
-    -- what `receive_at` requires
-    pub hand_asks : (p : ℕ) → p ≡ get_or ps i 0 → (set_words * p + set_words ≤ length sets) × (p < length met) × (news_at sets met p m ≡ true → c.head + c.len < length q)
-    hand_asks p e =
-        let inside : p < n = omega (arith, can.below i more) in
-        (omega (arith, can.sets_fit, h.sets_kept), omega (arith, can.met_fit, h.met_kept), place inside)
-      where
-        place : p < n → news_at sets met p m ≡ true → c.head + c.len < length q
-        place inside t =
-            let size : length (waiting q c) ≡ c.len = list_length q c (omega (arith, h.list_fits, h.q_kept)) in
-            let room : (state_at n sets met q c).taken + length (state_at n sets met q c).list < length q₀ =
-            subst (λ (s : State masks). news m s (get_or ps i 0) ≡ true → s.taken + length s.list < length q₀) (sym h.state) (can.room i more)
-            (ap (news m (state_at n sets met q c)) (sym e) ∙ news_at_lem sets met q c p m n c.head inside ∙ t) in
-            omega (arith, size, room, h.q_kept, at_taken n sets met q c, ap length (at_list n sets met q c))
+  module _ (w : Worklist) (i : ℕ) (h : Handing w₀ ps m w i) (more : i < length ps) (p : ℕ) (e : p ≡ get_or ps i 0) where
+    -- what `receive` requires
+    pub hand_inside : p < length w.met.now
+    hand_inside = omega (arith, can.below i more, h.same.met_long)
+
+    pub hand_room : news_at w p m ≡ true → w.cursor.head + w.cursor.len < length w.queue.now
+    hand_room t =
+        let room : (state w).taken + length (state w).list < length w₀.queue.now =
+        subst (λ (s : State masks). news m s (get_or ps i 0) ≡ true → s.taken + length s.list < length w₀.queue.now) (sym h.state_is) (can.room i more)
+        (ap (news m (state w)) (sym e) ∙ t) in
+        omega (arith, waits w, room, h.same.queue_long, at_taken w)
 
     -- one node more has received
-    pub hand_more : (p : ℕ) → p ≡ get_or ps i 0 → (sets₁ met₁ q₁ : List ℕ) (r : Cursor) → Received sets met q c p m sets₁ met₁ q₁ r
-        → length sets₁ ≡ length sets → length met₁ ≡ length met → length q₁ ≡ length q → Handing n sets₀ met₀ q₀ c₀ ps m sets₁ met₁ q₁ r (i + 1)
-    hand_more p e sets₁ met₁ q₁ r got ls lm lq =
-        let inside : p < n = omega (arith, can.below i more) in
-        record {
-          state = ap (state_of (sets_of n sets₁) met₁ q₁ r) got.same_head ∙ got.state n c.head inside (omega (arith, can.sets_fit, h.sets_kept)) ∙ ap₂ (receive m) h.state e ∙ sym (over_more (receive m) (state_at n sets₀ met₀ q₀ c₀) ps i 0 more);
-          same_head = got.same_head ∙ h.same_head;
-          list_fits = omega (arith, got.fits (omega (arith, h.list_fits, h.q_kept)), h.q_kept);
-          within = omega arith;
-          sets_kept = ls ∙ h.sets_kept;
-          met_kept = lm ∙ h.met_kept;
-          q_kept = lq ∙ h.q_kept;
-        }
+    pub hand_more : (w₁ : Worklist) → Received w p m w₁ → Handing w₀ ps m w₁ (i + 1)
+    hand_more w₁ got = record {
+      state_is = got.state_is ∙ ap₂ (receive m) h.state_is e ∙ sym (over_more (receive m) (state w₀) ps i 0 more);
+      same_head = got.same_head ∙ h.same_head;
+      within = omega arith;
+      same = same_then h.same got.same;
+    }
 
   -- all have
-  pub hand_all : (sets met q : List ℕ) (c : Cursor) (i : ℕ) → Handing n sets₀ met₀ q₀ c₀ ps m sets met q c i → length ps ≤ i → HandedOn n sets₀ met₀ q₀ c₀ ps m sets met q c
-  hand_all sets met q c i h end = record {
-    state = h.state ∙ ap (over (receive m) (state_at n sets₀ met₀ q₀ c₀)) (take_all i ps end);
-    same_head = h.same_head;
-    list_fits = h.list_fits;
-  }
+  pub hand_all : (w : Worklist) (i : ℕ) → Handing w₀ ps m w i → length ps ≤ i → HandedOn w₀ ps m w
+  hand_all w i h end = record { state_is = h.state_is ∙ ap (over (receive m) (state w₀)) (take_all i ps end); same_head = h.same_head; same = h.same }
 
 -- ---- what a key hands on
 
@@ -171,13 +154,11 @@ module _ (code : List Bytecode) (sound : Sound code) (lows ups : List ℕ) (boun
 -- ---- one key hands on
 
 -- the same nodes, and the same set
-pub can_hand_as : (n : ℕ) (sets met q : List ℕ) (c : Cursor) {ps ps' : List ℕ} {m m' : ℕ} → ps ≡ ps' → m ≡ m' → CanHand n sets met q c ps m → CanHand n sets met q c ps' m'
-can_hand_as n sets met q c {ps} {ps'} {m} {m'} e f h = subst (λ (x : ℕ). CanHand n sets met q c ps' x) f (subst (λ (x : List ℕ). CanHand n sets met q c x m) e h)
+pub can_hand_as : (w : Worklist) {ps ps' : List ℕ} {m m' : ℕ} → ps ≡ ps' → m ≡ m' → CanHand w ps m → CanHand w ps' m'
+can_hand_as w {ps} {ps'} {m} {m'} e f h = subst (λ (x : ℕ). CanHand w ps' x) f (subst (λ (x : List ℕ). CanHand w x m) e h)
 
-pub handed_as : (n : ℕ) (sets met q : List ℕ) (c : Cursor) {ps ps' : List ℕ} {m m' : ℕ} (sets₁ met₁ q₁ : List ℕ) (r : Cursor) → ps ≡ ps' → m ≡ m'
-    → HandedOn n sets met q c ps m sets₁ met₁ q₁ r → HandedOn n sets met q c ps' m' sets₁ met₁ q₁ r
-handed_as n sets met q c {ps} {ps'} {m} {m'} sets₁ met₁ q₁ r e f h =
-    subst (λ (x : ℕ). HandedOn n sets met q c ps' x sets₁ met₁ q₁ r) f (subst (λ (x : List ℕ). HandedOn n sets met q c x m sets₁ met₁ q₁ r) e h)
+pub handed_as : (w : Worklist) {ps ps' : List ℕ} {m m' : ℕ} (w₁ : Worklist) → ps ≡ ps' → m ≡ m' → HandedOn w ps m w₁ → HandedOn w ps' m' w₁
+handed_as w {ps} {ps'} {m} {m'} w₁ e f h = subst (λ (x : ℕ). HandedOn w ps' x w₁) f (subst (λ (x : List ℕ). HandedOn w x m w₁) e h)
 
 nexts_length : (code : List Bytecode) (ks : List ℕ) → length (nexts_of code ks) ≡ 2 + length ks
 unfolding nexts_of
@@ -189,35 +170,34 @@ leads_all code n k e one =
     let size : n - 2 ≡ length (nexts_of code (keyed code)) - 2 = omega (arith, nexts_length code (keyed code)) in
     ap (λ (x : ℕ). tab x 2 (λ b. b)) size ∙ sym (ap (leads_to (nexts_of code (keyed code))) one ∙ (unfold leads_to in refl))
 
--- the slices have the tables of some sound code, and those that key k leads to can receive what it hands on
-pub record CanStep (rules lows ups firsts edges sets met q : List ℕ) (c : Cursor) (k : ℕ) : Type 0 where
+-- the tables are those of some sound code, and those that key k leads to can receive what it hands on
+pub record CanStep (t : Tables) (w : Worklist) (k : ℕ) : Type 0 where
   pub code : List Bytecode
   pub sound : Sound code
-  pub tables : RunTables code rules lows ups firsts edges
-  pub nodes : length met ≡ 2 + length (keyed code)
-  pub few : length met ≤ max_number + 1
-  pub inside : k < length met
-  pub hands : CanHand (length met) sets met q c (leads code k) (given code sets k)
+  pub tables : RunTables code t
+  pub nodes : length w.met.now ≡ 2 + length (keyed code)
+  pub few : length w.met.now ≤ max_number + 1
+  pub inside : k < length w.met.now
+  pub hands : CanHand w (leads code k) (given code w.sets.now k)
 
-module _ (rules lows ups firsts edges sets met q : List ℕ) (c : Cursor) (k : ℕ) (can : CanStep rules lows ups firsts edges sets met q c k) where
-  pub step_out : CanOut rules lows ups sets k
+module _ (t : Tables) (w : Worklist) (k : ℕ) (can : CanStep t w k) where
+  pub step_out : CanOut t w.sets.now k
   step_out =
-      let t = can.tables in
-      let b = t.bounds in
+      let b = can.tables.bounds in
       record {
-        own = omega (arith, can.inside, can.hands.sets_fit);
+        own = omega (arith, can.inside, w.nodes);
         low = omega (arith, can.inside, can.nodes, b.lows_long);
         up = omega (arith, can.inside, can.nodes, b.ups_long);
-        rule_room = λ block. record { fit = omega (arith, can.tables.room.fit, upper_inside can.code can.sound lows ups b k block (omega (arith, can.inside, can.nodes))) };
+        rule_room = λ block. omega (arith, can.tables.room, upper_inside can.code can.sound t.lower_of_key.now t.upper_of_key.now b k block (omega (arith, can.inside, can.nodes)));
       }
 
   -- where m is what it hands on
-  pub step_hands : (m : ℕ) → m ≡ given can.code sets k → CanHandKey firsts edges sets met q c k m
+  pub step_hands : (m : ℕ) → m ≡ given can.code w.sets.now k → CanHandKey t w k m
   step_hands m e = record {
     code = can.code;
     leads_are = can.tables.leads_are;
     nodes = can.nodes;
     few = can.few;
     inside = can.inside;
-    hands = subst (CanHand (length met) sets met q c (leads can.code k)) (sym e) can.hands;
+    hands = subst (CanHand w (leads can.code k)) (sym e) can.hands;
   }

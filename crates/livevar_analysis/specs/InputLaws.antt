@@ -30,13 +30,13 @@ short : Shape → Bool
 short f = leb f.dhigh list_places && leb f.shigh list_places
 
 all_short : (fs : List Shape) (k : ℕ) → all short fs ≡ true → short (get_or fs k no_shape) ≡ true
-unfolding all short
+unfolding short
 all_short [] k e = refl
 all_short (f ∷ fs) zero e = (and-true (short f) (all short fs) e).0
 all_short (f ∷ fs) (suc k) e = all_short fs k (and-true (short f) (all short fs) e).1
 
 few_places : (k : ℕ) → ((shape_of k).dhigh ≤ list_places) × ((shape_of k).shigh ≤ list_places)
-unfolding all short
+unfolding short
 few_places k =
     let both = and-true (leb (shape_of k).dhigh list_places) (leb (shape_of k).shigh list_places) (all_short shapes k refl) in
     (leb-true _ list_places both.0, leb-true _ list_places both.1)

@@ -1,12 +1,14 @@
 -- The bytes of an accepted sheet's live sets have term 3. Assumes nothing.
-use Rattle.std.specs.Prelude.{◌≡◌, refl, ℕ, ◌*◌, ◌≤◌, ◌<◌, List, [], ◌∷◌, ◌++◌, map, get_or, length}
+use Rattle.base.specs.declared.Refusal.{Refusal}
+use Rattle.base.specs.declared.Refusal.TheVariants.{OutputShort}
+use Rattle.std.specs.Prelude.{◌≡◌, refl, ℕ, ◌*◌, ◌≤◌, ◌<◌, List, [], ◌∷◌, ◌++◌, map, get_or, length, Err}
 use Rattle.std.proofs.Common.{sym, ap, ap₂, ◌∙◌, subst, zero-add, arith, length-append}
 use mathlib.Core.List.{Memᴰ}
 use Rattle.base.specs.Sizes.{set_bytes, pair_bytes}
 use Rattle.base.specs.Bytes.{part, bytes_of}
 use Rattle.dataflow_domains.specs.ByteLaws.{bytes_length}
 use Rattle.base.specs.PartLaws.{gather_length}
-use Rattle.base.specs.Refusals.{Accepted, Refused, Reply, No, Done, lends}
+use Rattle.base.specs.Refusals.{Accepted, Reply, Done, lends}
 use Rattle.base.specs.ReplyLaws.{call_refused, call_short, call_done}
 use Rattle.base.specs.ListLaws.{get_d_tab}
 use Rattle.dataflow_domains.specs.Mask.{bit, unions}
@@ -88,11 +90,11 @@ module _ (s : List ℕ) (lent : ℕ) where
   abbrev done : Reply
   done = Done (analyze (code_of s) (locals_of s)).taken (live_bytes (analyze (code_of s) (locals_of s)).info)
 
-  pub live_refused : {num place : ℕ} → check_sheet s ≡ Refused num place → live_reply s lent ≡ No num place
+  pub live_refused : {e : Refusal} → check_sheet s ≡ Err e → live_reply s lent ≡ Err e
   unfolding live_reply
   live_refused e = call_refused (lends lent (pair_bytes * length (code_of s))) done e
 
-  pub live_short : check_sheet s ≡ Accepted → lent < pair_bytes * length (code_of s) → live_reply s lent ≡ No 9 0
+  pub live_short : check_sheet s ≡ Accepted → lent < pair_bytes * length (code_of s) → live_reply s lent ≡ Err OutputShort
   unfolding live_reply
   live_short e h = call_short done e h
 

@@ -1,9 +1,10 @@
 -- What state_per_instruction reads, the keys of the offsets and the sets of the keys; and the sets of each instruction. Assumes nothing.
-use Rattle.std.specs.Prelude.{◌≡◌, Bool, cond, not, ◌||◌, List, ◌++◌, ℕ, ◌+◌, ◌*◌, ◌≤◌, ◌<◌, eqb, get_or, length}
-use Rattle.base.specs.Sizes.{set_bytes, set_words}
+use Rattle.std.specs.Prelude.{◌≡◌, Bool, cond, not, ◌||◌, List, ◌++◌, ℕ, ◌+◌, ◌≤◌, ◌<◌, eqb, get_or, length, map, take}
+use Rattle.base.specs.Sizes.{set_bytes}
 use Rattle.base.specs.Lists.{tab}
 use Rattle.base.specs.Bytes.{bytes_of}
-use Rattle.dataflow_domains.specs.Sets.{stored_set, sets_of}
+use Rattle.dataflow_domains.specs.Sets.{mask}
+use Rattle.dataflow_domains.specs.declared.LiveVarState.{LiveVarState}
 use Rattle.stackless_bytecode.specs.declared.Bytecode.{Bytecode}
 use Rattle.stackless_bytecode.specs.Sound.{Sound}
 use Rattle.stackless_control_flow_graph.specs.Blocks.{lower_of, keyed, key_of}
@@ -30,17 +31,17 @@ abbrev pub is_end : List ℕ → ℕ → ℕ → Bool
 is_end keys n k = eqb (k + 1) n || not (eqb (get_or keys (k + 1) 0) (get_or keys k 0))
 
 -- the set after instruction k: at a block's end the set of its key, else m
-unfoldable pub after_by : List ℕ → List ℕ → ℕ → ℕ → ℕ → ℕ
-after_by keys sets n k m = cond (is_end keys n k) (stored_set sets (get_or keys k 0)) m
+unfoldable pub after_by : List ℕ → List LiveVarState → ℕ → ℕ → ℕ → ℕ
+after_by keys sets n k m = cond (is_end keys n k) (get_or (map mask sets) (get_or keys k 0) 0) m
 
 -- n instructions have keys, and every key has a set
-pub record KeySets (n : ℕ) (keys sets : List ℕ) : Type 0 where
+pub record KeySets (n : ℕ) (keys : List ℕ) (sets : List LiveVarState) : Type 0 where
   pub keys_fit : n ≤ length keys
-  pub sets_fit : (k : ℕ) → k < n → set_words * get_or keys k 0 + set_words ≤ length sets
+  pub sets_fit : (k : ℕ) → k < n → get_or keys k 0 < length sets
 
 -- the keys are those of the code, and the sets are ms
-pub record Blocked (code : List Bytecode) (ms keys sets : List ℕ) : Type 0 where
+pub record Blocked (code : List Bytecode) (ms keys : List ℕ) (sets : List LiveVarState) : Type 0 where
   pub sound : Sound code
   pub keys_are : OffsetKeys code keys
   pub keys_in : (k : ℕ) → k < length code → get_or keys k 0 < length ms
-  pub sets_are : sets_of (length ms) sets ≡ ms
+  pub sets_are : take (length ms) (map mask sets) ≡ ms

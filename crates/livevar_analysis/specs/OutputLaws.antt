@@ -1,7 +1,7 @@
 -- The sets of each instruction from the last to the first, the bytes that are written, and that they are read back. Assumes nothing.
-use Rattle.std.specs.Prelude.{◌≡◌, Bool, true, false, ◌||◌, eqb, refl, cond, not, List, ◌++◌, ℕ, suc, ◌+◌, ◌-◌, ◌*◌, ◌^◌, ◌≤◌, ◌<◌, get_or, length, take, drop}
-use Rattle.std.proofs.Common.{sym, ap, ap₂, ◌∙◌, subst, inl, inr, zero-add, lt_of_lt_of_le, add-one, eq-eqb, ne_eqb, length-append, pow_mono, ext_get_or, take_at, drop_at, append_assoc, arith, take-append-drop, pow_pos}
-use Rattle.base.specs.Sizes.{set_bytes, set_words, max_locals, pair_bytes}
+use Rattle.std.specs.Prelude.{◌≡◌, Bool, true, false, ◌||◌, eqb, refl, cond, not, List, ◌++◌, ℕ, suc, ◌+◌, ◌-◌, ◌*◌, ◌^◌, ◌≤◌, ◌<◌, get_or, length, map, take, drop}
+use Rattle.std.proofs.Common.{sym, ap, ap₂, ◌∙◌, subst, inl, inr, zero-add, lt_of_lt_of_le, add-one, eq-eqb, ne_eqb, length-append, pow_mono, get_or-take, ext_get_or, take_at, drop_at, append_assoc, arith, take-append-drop, pow_pos}
+use Rattle.base.specs.Sizes.{set_bytes, max_locals, pair_bytes}
 use Rattle.base.specs.Lists.{tab, gather}
 use Rattle.base.specs.Bytes.{number, part, bytes_of}
 use Rattle.base.specs.ListLaws.{by_eq, by_test, get_d_in, get_d_tab, length_tab}
@@ -10,9 +10,9 @@ use Rattle.base.specs.WriteLaws.{part_behind}
 use Rattle.base.specs.ByteLaws.{number_bytes}
 use Rattle.base.specs.Refusals.{Accepted}
 use Rattle.dataflow_domains.specs.MaskLaws.{sub_refl, sub_lt, sub_full}
-use Rattle.dataflow_domains.specs.Sets.{stored_set, sets_of}
+use Rattle.dataflow_domains.specs.Sets.{mask}
+use Rattle.dataflow_domains.specs.declared.LiveVarState.{LiveVarState}
 use Rattle.dataflow_domains.specs.ByteLaws.{bytes_length}
-use Rattle.dataflow_domains.specs.SliceLaws.{masks_at}
 use Rattle.stackless_bytecode.specs.declared.Bytecode.{Bytecode}
 use Rattle.stackless_bytecode.specs.Kinds.{at, nop}
 use Rattle.sheet.specs.Layout.{locals_of, code_of}
@@ -20,13 +20,15 @@ use Rattle.sheet.specs.Checks.{check_sheet}
 use Rattle.sheet.specs.CheckLaws.{clear, locals_lt}
 use Rattle.sheet.specs.AcceptLaws.{is_heading}
 use Rattle.stackless_control_flow_graph.specs.Blocks.{starts, lower_of, keyed, key_of}
-use Rattle.stackless_control_flow_graph.specs.BlockLaws.{Last, Start, lower_start, lower_next, lower_starts, lower_le}
+use Rattle.stackless_control_flow_graph.specs.BlockLaws.{Last, lower_start, lower_next, lower_starts, lower_le}
+use Rattle.stackless_control_flow_graph.specs.Blocks.{Start}
 use Rattle.stackless_control_flow_graph.specs.GraphLaws.{keys_once}
 use Rattle.livevar_analysis.specs.Live.{execute, Post}
 use Rattle.livevar_analysis.specs.LiveLaws.{transfer_lt}
 use Rattle.livevar_analysis.specs.Term3Laws.{term3}
 use Rattle.livevar_analysis.specs.Analysis.{LiveVarInfo, no_info, analyze_function, analyze, execute_all, info_of, live_bytes, info_in, infos_of}
 use Rattle.livevar_analysis.specs.BlockRuleLaws.{sides_by, behind, rest_is, behind_last, behind_mid}
+use Rattle.livevar_analysis.specs.declared.rules.Rule.{Rule}
 use Rattle.livevar_analysis.specs.Rules.{rule_at, Ruled}
 use Rattle.livevar_analysis.specs.Output.{info_by, infos_by, side_bytes, is_end, after_by, Blocked}
 
@@ -48,13 +50,13 @@ module _ (code : List Bytecode) (ms : List ℕ) where
   unfolding info_by info_of before_of after_of final
   info_is k h = ap (λ (rs : List Bytecode). sides_by (at code k) (execute_all (drop 1 rs) (final k))) (rest_is code k h)
 
-  module _ (keys sets : List ℕ) (known : Blocked code ms keys sets) where
+  module _ (keys : List ℕ) (sets : List LiveVarState) (known : Blocked code ms keys sets) where
     -- at the end of a block
     after_end : (k m : ℕ) → k < length code → Last code k → is_end keys (length code) k ≡ true → after_by keys sets (length code) k m ≡ after_of k
-    unfolding after_by after_of execute_all final sets_of stored_set
+    unfolding after_by after_of execute_all final
     after_end k m h last e =
-        ap (λ (b : Bool). cond b (stored_set sets (get_or keys k 0)) m) e
-        ∙ sym (masks_at 64 set_words (length ms) sets (get_or keys k 0) (known.keys_in k h)) ∙ ap (λ (l : List ℕ). get_or l (get_or keys k 0) 0) known.sets_are
+        ap (λ (b : Bool). cond b (get_or (map mask sets) (get_or keys k 0) 0) m) e
+        ∙ sym (get_or-take (length ms) (map mask sets) (get_or keys k 0) 0 (known.keys_in k h)) ∙ ap (λ (l : List ℕ). get_or l (get_or keys k 0) 0) known.sets_are
         ∙ ap (λ (x : ℕ). get_or ms x 0) (known.keys_are.each k h)
         ∙ sym (ap (λ (rs : List Bytecode). execute_all rs (final k)) (behind_last code k h last))
 
@@ -62,7 +64,7 @@ module _ (code : List Bytecode) (ms : List ℕ) where
     after_mid : (k m : ℕ) → suc k < length code → starts code (suc k) ≡ false → m ≡ before_of (suc k) → is_end keys (length code) k ≡ false → after_by keys sets (length code) k m ≡ after_of k
     unfolding after_by before_of after_of execute_all final
     after_mid k m h e q f =
-        ap (λ (b : Bool). cond b (stored_set sets (get_or keys k 0)) m) f ∙ q
+        ap (λ (b : Bool). cond b (get_or (map mask sets) (get_or keys k 0) 0) m) f ∙ q
         ∙ sym (ap (λ (rs : List Bytecode). execute_all rs (final k)) (behind_mid code k h e ∙ rest_is code (suc k) h)
         ∙ ap (λ (x : ℕ). execute (at code (suc k)) (execute_all (behind code (suc k)) (get_or ms (key_of (keyed code) x) 0))) (sym (lower_next code k e)))
 
@@ -104,7 +106,7 @@ module _ (code : List Bytecode) (ms old : List ℕ) where
     pub is : out ≡ take (pair_bytes * k) old ++ (live_bytes (tab (length code - k) k (info_by code ms)) ++ drop (pair_bytes * length code) old)
 
   pub written_none : (n m : ℕ) → n ≡ length code → InfoWritten n m old
-  unfolding tab live_bytes gather
+  unfolding tab live_bytes
   written_none n m e =
       let none : length code - n ≡ 0 = omega arith in
       record {
@@ -115,7 +117,7 @@ module _ (code : List Bytecode) (ms old : List ℕ) where
   pub written_more : {k m : ℕ} {out : List ℕ} (j before after e : ℕ) → k ≡ suc j → e ≡ pair_bytes * j + pair_bytes → k ≤ length code → pair_bytes * length code ≤ length old
       → after ≡ after_of code ms j → before ≡ execute (at code j) after → InfoWritten k m out
       → InfoWritten j before (take (pair_bytes * j) out ++ (side_bytes before after ++ drop (e - pair_bytes * j) (drop (pair_bytes * j) out)))
-  unfolding tab live_bytes gather before_of
+  unfolding tab live_bytes before_of
   written_more {k} {m} {out} j before after e s q h l ea eb w =
       let size : length code - j ≡ suc (length code - k) = omega arith in
       let end : pair_bytes * k ≡ e = omega arith in
@@ -133,7 +135,7 @@ module _ (code : List Bytecode) (ms old : List ℕ) where
       }
 
   -- a turn, by the rules and blocks in slices: a is the set after instruction k - 1, b the set before it
-  pub written_step : (rules keys sets : List ℕ) {k m : ℕ} {out : List ℕ} (n a b : ℕ) (blk : List ℕ) → n ≡ length code → Ruled code rules → Blocked code ms keys sets
+  pub written_step : (rules : List Rule) (keys : List ℕ) (sets : List LiveVarState) {k m : ℕ} {out : List ℕ} (n a b : ℕ) (blk : List ℕ) → n ≡ length code → Ruled code rules → Blocked code ms keys sets
       → 0 < k → k ≤ n → pair_bytes * n ≤ length old → a ≡ after_by keys sets n (k - 1) m → b ≡ rule_at rules (k - 1) a → blk ≡ side_bytes b a → InfoWritten k m out
       → InfoWritten (k - 1) b (take (pair_bytes * (k - 1)) out ++ (blk ++ drop (pair_bytes * (k - 1) + pair_bytes - pair_bytes * (k - 1)) (drop (pair_bytes * (k - 1)) out)))
   written_step rules keys sets {k} {m} {out} n a b blk size ruled known pos h l ea eb q w =

@@ -1,26 +1,28 @@
 -- The main loop of the engine is the definition's run: its invariant, a turn, and its end. Assumes nothing.
-use Rattle.std.specs.Prelude.{◌≡◌, refl, Bool, true, cond, ℕ, zero, suc, ◌+◌, ◌-◌, ◌*◌, ◌^◌, ◌≤◌, ◌<◌, get_or, set, take, drop, replicate, List, [], ◌∷◌, ◌++◌, length}
-use Rattle.std.proofs.Common.{sym, ◌∙◌, mul-le-mul, add-one, length-set, length-take, ext_get_or, get_or-take, ap, ap₂, subst, arith}
+use Rattle.std.specs.Prelude.{◌≡◌, refl, Bool, true, false, cond, map, ℕ, zero, suc, ◌+◌, ◌-◌, ◌*◌, ◌^◌, ◌≤◌, ◌<◌, get_or, set, take, replicate, List, [], ◌∷◌, ◌++◌, length}
+use Rattle.std.proofs.Common.{sym, ◌∙◌, mul-le-mul, length-set, length-take, length-take-le, get_or-take, ext_get_or, take_all, ap, ap₂, subst, arith}
 use mathlib.Core.List.{Memᴰ}
 use Rattle.std.specs.Int.Count.{ones, ones-ones}
-use Rattle.std.proofs.Math.ListN.{get_or-eq_default}
-use Rattle.std.proofs.lemmas.List.{length-replicate}
+use Rattle.std.proofs.Math.ListN.{get_or-map, get_or-eq_default}
+use Rattle.std.proofs.lemmas.List.{length-replicate, length-map, map-set, map-append, take-map, take-append-le}
 use Rattle.std.proofs.Math.Pow.{ones_lt}
-use Rattle.base.specs.Sizes.{set_words, max_locals, max_instructions, taken_bound, max_taken}
+use Rattle.base.specs.Sizes.{max_locals, max_instructions, taken_bound, max_taken}
 use Rattle.base.specs.Lists.{over, keep}
 use Rattle.base.specs.JoinLaws.{by_lt}
 use Rattle.base.specs.ListLaws.{by_test, in_take, get_d_in, copies_at}
 use Rattle.dataflow_domains.specs.MaskLaws.{sub_full, sub_lt}
-use Rattle.dataflow_domains.specs.Sets.{stored_set, sets_of}
-use Rattle.dataflow_domains.specs.SliceLaws.{masks_zeros}
+use Rattle.dataflow_domains.specs.Sets.{mask}
+use Rattle.dataflow_domains.specs.declared.LiveVarState.{LiveVarState}
 use Rattle.dataflow_analysis.specs.declared.Cursor.{Cursor}
 use Rattle.dataflow_analysis.specs.Worklist.{State, begin, receive, news, popped, step, run}
 use Rattle.dataflow_analysis.specs.WorklistLaws as general
 use Rattle.dataflow_analysis.specs.Lattice.{masks}
 use Rattle.dataflow_analysis.specs.MaskListLaws.{mask_laws, mask_size, met_inside}
-use Rattle.dataflow_analysis.specs.Queue.{waiting, Queued, state_of}
-use Rattle.dataflow_analysis.specs.QueueLaws.{list_none, Took, took_popped, run_more, run_done}
-use Rattle.dataflow_domains.specs.StoredLaws.{set_at}
+use Rattle.dataflow_analysis.specs.declared.Worklist.{Worklist}
+use Rattle.dataflow_analysis.specs.Queue.{waiting, Queued}
+use Rattle.dataflow_analysis.specs.QueueLaws.{list_none, run_more, run_done}
+use Rattle.dataflow_analysis.specs.Receipt.{flag, state_of, state, SameSlices, Taken, Ended}
+use Rattle.dataflow_analysis.specs.ReceiptLaws.{same_slices, same_then}
 use Rattle.stackless_bytecode.specs.declared.Bytecode.{Bytecode}
 use Rattle.stackless_bytecode.specs.Sound.{Sound}
 use Rattle.stackless_control_flow_graph.specs.Blocks.{starts, lowers, blocks_of, keyed}
@@ -28,10 +30,10 @@ use Rattle.livevar_analysis.specs.Live.{execute}
 use Rattle.livevar_analysis.specs.LiveLaws.{transfer_lt}
 use Rattle.livevar_analysis.specs.Analysis.{out_of, analyze_function}
 use Rattle.livevar_analysis.specs.AnalysisLaws.{graph, narrow, bound_fits}
-use Rattle.stackless_control_flow_graph.specs.Graph.{Bounds, Edges}
+use Rattle.stackless_control_flow_graph.specs.Graph.{Edges}
 use Rattle.stackless_control_flow_graph.specs.FlowLaws.{keys_blocks}
-use Rattle.livevar_analysis.specs.Engine.{Analyzable, RunTables, leads, given, state_at, CanHand, HandedOn, CanOut, CanHandKey, Begun, CanRun, RunInput, SolveInput, Solved}
-use Rattle.livevar_analysis.specs.Rules.{Ruled}
+use Rattle.livevar_analysis.specs.Engine.{Analyzable, RunTables, leads, given, CanHand, HandedOn, CanOut, CanHandKey, Begun, CanRun, RunInput, SolveInput, Solved}
+use Rattle.livevar_analysis.specs.declared.tables.Tables.{Tables}
 use Rattle.livevar_analysis.specs.EngineLaws.{CanStep, step_out, step_hands, handed_as}
 
 -- ---- how many keys there are, and how many are taken
@@ -113,201 +115,175 @@ module _ (code : List Bytecode) (locals : ℕ) (ok : Analyzable code locals) whe
   pub runs_done : (st : State masks) → st.list ≡ [] → Runs code locals st → analyze_function code (keyed code) locals ≡ st
   runs_done st e r = r.same ∙ run_done (leads code) out (taken_bound (length (keyed code)) locals - st.taken) st e
 
-  -- ---- a turn of the code: key k is taken, and `next` is the cursor past it
+  -- ---- a turn of the code: key k is taken, and w₁ is left
 
-  module _ (sets met q : List ℕ) (c next : Cursor) (k : ℕ) (took : Took q c k next) (fits : length met * set_words ≤ length sets) (nodes : length met ≡ n) (long : length q ≡ max_taken)
-      (within : next.head + next.len ≤ length q) (r : Runs code locals (state_at n sets met q c)) where
-    waits : (state_at n sets met q c).list ≡ k ∷ waiting q next
-    unfolding state_of
-    waits = took.queued
-
+  module _ (w w₁ : Worklist) (k : ℕ) (took : Taken w k w₁) (nodes : length w.met.now ≡ n) (long : length w.queue.now ≡ max_taken) (r : Runs code locals (state w)) where
     pub key_inside : k < n
     key_inside =
-        met_inside (leads code) out n (state_at n sets met q c) r.inv.ok k
-        (general.met_first mask_laws (leads code) out n whole (state_at n sets met q c) k (waiting q next) waits r.inv.ok)
+        met_inside (leads code) out n (state w) r.inv.ok k
+        (general.met_first mask_laws (leads code) out n whole (state w) k (state w₁).list took.first r.inv.ok)
 
-    popped_is : state_at n sets met q next ≡ popped (state_at n sets met q c) (waiting q next)
-    popped_is =
-        ap (state_of (sets_of n sets) met q next) (took.next_head ∙ add-one c.head) ∙ took_popped (sets_of n sets) met q c next c.head
-
-    own_is : get_or (state_at n sets met q c).sets k 0 ≡ stored_set sets k
-    unfolding state_of
-    own_is = set_at n sets k key_inside
+    own_is : get_or (state w).sets k 0 ≡ get_or (map mask w₁.sets.now) k 0
+    unfolding state_of popped
+    own_is = sym (ap (λ (s : State masks). get_or s.sets k 0) took.state_is)
 
     -- where p has news when the nodes of ps have received m, the list is not full
     abbrev Roomy : List ℕ → ℕ → ℕ → State masks → Type 0
-    Roomy ps p m s = news m (over (receive m) s ps) p ≡ true → (over (receive m) s ps).taken + length (over (receive m) s ps).list < length q
+    Roomy ps p m s = news m (over (receive m) s ps) p ≡ true → (over (receive m) s ps).taken + length (over (receive m) s ps).list < length w₁.queue.now
 
     room_before : (i : ℕ) → i < length (leads code k)
-        → Roomy (take i (leads code k)) (get_or (leads code k) i 0) (out k (get_or (state_at n sets met q c).sets k 0)) (popped (state_at n sets met q c) (waiting q next))
+        → Roomy (take i (leads code k)) (get_or (leads code k) i 0) (out k (get_or (state w).sets k 0)) (popped (state w) (state w₁).list)
     room_before i h e =
-        let few = general.hand_fits mask_laws (leads code) out (mask_size locals) n 1 whole thin (omega arith) (state_at n sets met q c) k (waiting q next) waits r.inv (take i (leads code k)) (λ p m. in_take i (leads code k) m) (get_or (leads code k) i 0) (get_d_in (leads code k) i 0 h) e in
-        omega (arith, below_bound _ few, bound_le, long)
+        let few = general.hand_fits mask_laws (leads code) out (mask_size locals) n 1 whole thin (omega arith) (state w) k (state w₁).list took.first r.inv (take i (leads code k)) (λ p m. in_take i (leads code k) m) (get_or (leads code k) i 0) (get_d_in (leads code k) i 0 h) e in
+        omega (arith, below_bound _ few, bound_le, long, took.same.queue_long)
 
-    room : (i : ℕ) → i < length (leads code k) → Roomy (take i (leads code k)) (get_or (leads code k) i 0) (given code sets k) (state_at n sets met q next)
+    room : (i : ℕ) → i < length (leads code k) → Roomy (take i (leads code k)) (get_or (leads code k) i 0) (given code w₁.sets.now k) (state w₁)
     room i h =
-        subst (λ (m : ℕ). Roomy (take i (leads code k)) (get_or (leads code k) i 0) m (state_at n sets met q next)) (ap (out k) own_is)
-        (subst (λ (s : State masks). Roomy (take i (leads code k)) (get_or (leads code k) i 0) (out k (get_or (state_at n sets met q c).sets k 0)) s) (sym popped_is) (room_before i h))
+        subst (λ (m : ℕ). Roomy (take i (leads code k)) (get_or (leads code k) i 0) m (state w₁)) (ap (out k) own_is)
+        (subst (λ (s : State masks). Roomy (take i (leads code k)) (get_or (leads code k) i 0) (out k (get_or (state w).sets k 0)) s) (sym took.state_is) (room_before i h))
 
     -- those that k leads to can receive what it hands on
-    pub runs_hands : CanHand n sets met q next (leads code k) (given code sets k)
+    pub runs_hands : CanHand w₁ (leads code k) (given code w₁.sets.now k)
     runs_hands = record {
-      sets_fit = omega (arith, fits, nodes);
-      met_fit = omega (arith, nodes);
-      list_fits = within;
-      below = λ i h. (whole.inside k).each (get_or (leads code k) i 0) (get_d_in (leads code k) i 0 h);
+      below = λ i h. omega (arith, (whole.inside k).each (get_or (leads code k) i 0) (get_d_in (leads code k) i 0 h), took.same.met_long, nodes);
       room = λ i h. room i h;
     }
 
     -- and then the state is the definition's
-    pub runs_turn : (sets₁ met₁ q₁ : List ℕ) (next₁ : Cursor) → HandedOn n sets met q next (leads code k) (given code sets k) sets₁ met₁ q₁ next₁ → Runs code locals (state_at n sets₁ met₁ q₁ next₁)
+    pub runs_turn : (w₂ : Worklist) → HandedOn w₁ (leads code k) (given code w₁.sets.now k) w₂ → Runs code locals (state w₂)
     unfolding step
-    runs_turn sets₁ met₁ q₁ next₁ h =
-        subst (Runs code locals) (sym (h.state ∙ ap₂ (λ (m : ℕ) (s : State masks). over (receive m) s (leads code k)) (ap (out k) (sym own_is)) popped_is))
-        (runs_step (state_at n sets met q c) k (waiting q next) waits r)
+    runs_turn w₂ h =
+        subst (Runs code locals) (sym (h.state_is ∙ ap₂ (λ (m : ℕ) (s : State masks). over (receive m) s (leads code k)) (ap (out k) (sym own_is)) took.state_is))
+        (runs_step (state w) k (state w₁).list took.first r)
 
--- ---- the loop over the slices
+-- ---- the loop
 
-module _ (rules lows ups firsts edges sets₀ met₀ q₀ : List ℕ) (c₀ : Cursor) where
-  -- for whatever code the tables are, the slices have a state of its run
-  pub record Held (sets met q : List ℕ) (c : Cursor) : Type 0 where
-    pub runs : (code : List Bytecode) (locals : ℕ) → Begun code locals rules lows ups firsts edges sets₀ met₀ q₀ c₀ → Runs code locals (state_at (2 + length (keyed code)) sets met q c)
-    pub list_fits : c.head + c.len ≤ length q
-    pub sets_kept : length sets ≡ length sets₀
-    pub met_kept : length met ≡ length met₀
-    pub q_kept : length q ≡ length q₀
+module _ (t : Tables) (w₀ : Worklist) where
+  -- for whatever code the tables are, the list has a state of its run
+  pub record Held (w : Worklist) : Type 0 where
+    pub runs : (code : List Bytecode) (locals : ℕ) → Begun code locals t w₀ → Runs code locals (state w)
+    pub same : SameSlices w₀ w
 
-  module _ (can : CanRun rules lows ups firsts edges sets₀ met₀ q₀ c₀) where
-    pub held_begin : Held sets₀ met₀ q₀ c₀
-    held_begin = record {
-      runs = λ code locals b. subst (Runs code locals) (sym b.state) (runs_begin code locals b.analyzable);
-      list_fits = can.begun.list_fits;
-      sets_kept = refl;
-      met_kept = refl;
-      q_kept = refl;
-    }
+  module _ (can : CanRun t w₀) where
+    pub held_begin : Held w₀
+    held_begin = record { runs = λ code locals b. subst (Runs code locals) (sym b.state_is) (runs_begin code locals b.analyzable); same = same_slices w₀ }
 
-    module _ (sets met q : List ℕ) (c : Cursor) (h : Held sets met q c) (next : Cursor) (k : ℕ) (took : Took q c k next) where
-      within : next.head + next.len ≤ length q
-      within = omega (arith, took.same_end, h.list_fits)
+    module _ (w : Worklist) (h : Held w) (k : ℕ) (w₁ : Worklist) (took : Taken w k w₁) where
+      nodes_kept : {n : ℕ} → length w₀.met.now ≡ n → length w.met.now ≡ n
+      nodes_kept e = h.same.met_long ∙ e
 
-      held_asks : CanStep rules lows ups firsts edges sets met q next k
+      held_asks : CanStep t w₁ k
       held_asks =
           let a = can.begun.analyzable in
-          let nodes : length met ≡ 2 + length (keyed can.code) = h.met_kept ∙ can.begun.nodes in
-          let fits : length met * set_words ≤ length sets = omega (arith, can.begun.sets_fit, h.met_kept, h.sets_kept) in
-          let long : length q ≡ max_taken = h.q_kept ∙ can.begun.list_long in
+          let nodes : length w.met.now ≡ 2 + length (keyed can.code) = nodes_kept can.begun.nodes in
+          let long : length w.queue.now ≡ max_taken = h.same.queue_long ∙ can.begun.list_long in
           let r = h.runs can.code can.locals can.begun in
           record {
             code = can.code;
             sound = a.sound;
             tables = can.begun.tables;
-            nodes = nodes;
-            few = omega (arith, keys_few can.code a.sound, a.few);
-            inside = omega (arith, key_inside can.code can.locals a sets met q c next k took fits nodes long within r);
-            hands = subst (λ (n : ℕ). CanHand n sets met q next (leads can.code k) (given can.code sets k)) (sym nodes) (runs_hands can.code can.locals a sets met q c next k took fits nodes long within r);
+            nodes = took.same.met_long ∙ nodes;
+            few = omega (arith, keys_few can.code a.sound, a.few, took.same.met_long, nodes);
+            inside = omega (arith, key_inside can.code can.locals a w w₁ k took nodes long r, took.same.met_long, nodes);
+            hands = runs_hands can.code can.locals a w w₁ k took nodes long r;
           }
 
       -- what `out_of` requires
-      pub held_out : CanOut rules lows ups sets k
-      held_out = step_out rules lows ups firsts edges sets met q next k held_asks
+      pub held_out : CanOut t w₁.sets.now k
+      held_out = step_out t w₁ k held_asks
 
-      module _ (m : ℕ) (out : (code : List Bytecode) → Sound code → Ruled code rules → Bounds code lows ups → k < 2 + length (keyed code) → m ≡ given code sets k) where
-        is_given : (code : List Bytecode) → Sound code → RunTables code rules lows ups firsts edges → length met ≡ 2 + length (keyed code) → m ≡ given code sets k
-        is_given code sound t nodes = out code sound t.ruled t.bounds (omega (arith, held_asks.inside))
+      module _ (m : ℕ) (out : (code : List Bytecode) → Sound code → RunTables code t → k < 2 + length (keyed code) → m ≡ given code w₁.sets.now k) where
+        is_given : (code : List Bytecode) → Sound code → RunTables code t → length w₁.met.now ≡ 2 + length (keyed code) → m ≡ given code w₁.sets.now k
+        is_given code sound tables nodes = out code sound tables (omega (arith, held_asks.inside))
 
         -- what `hand_key` requires
-        pub held_hands : CanHandKey firsts edges sets met q next k m
-        held_hands = step_hands rules lows ups firsts edges sets met q next k held_asks m (is_given held_asks.code held_asks.sound held_asks.tables held_asks.nodes)
+        pub held_hands : CanHandKey t w₁ k m
+        held_hands = step_hands t w₁ k held_asks m (is_given held_asks.code held_asks.sound held_asks.tables held_asks.nodes)
 
-        module _ (sets₁ met₁ q₁ : List ℕ) (next₁ : Cursor)
-            (hand : (code : List Bytecode) → Edges code firsts edges → length met ≡ 2 + length (keyed code) → HandedOn (length met) sets met q next (leads code k) m sets₁ met₁ q₁ next₁) where
-          stepped : (code : List Bytecode) → Sound code → RunTables code rules lows ups firsts edges → length met ≡ 2 + length (keyed code)
-              → HandedOn (length met) sets met q next (leads code k) (given code sets k) sets₁ met₁ q₁ next₁
-          stepped code sound t nodes = handed_as (length met) sets met q next sets₁ met₁ q₁ next₁ refl (is_given code sound t nodes) (hand code t.leads_are nodes)
+        module _ (w₂ : Worklist) (hand : (code : List Bytecode) → Edges code t.first_edge.now t.edges.now → length w₁.met.now ≡ 2 + length (keyed code) → HandedOn w₁ (leads code k) m w₂) where
+          stepped : (code : List Bytecode) → Sound code → RunTables code t → length w₁.met.now ≡ 2 + length (keyed code) → HandedOn w₁ (leads code k) (given code w₁.sets.now k) w₂
+          stepped code sound tables nodes = handed_as w₁ w₂ refl (is_given code sound tables nodes) (hand code tables.leads_are nodes)
+
+          handed : HandedOn w₁ (leads can.code k) (given can.code w₁.sets.now k) w₂
+          handed = stepped can.code can.begun.analyzable.sound can.begun.tables (took.same.met_long ∙ nodes_kept can.begun.nodes)
 
           -- the head has moved by one
-          handed : HandedOn (length met) sets met q next (leads can.code k) (given can.code sets k) sets₁ met₁ q₁ next₁
-          handed = stepped can.code can.begun.analyzable.sound can.begun.tables (h.met_kept ∙ can.begun.nodes)
-
-          pub held_head : next₁.head ≡ c.head + 1
+          pub held_head : w₂.cursor.head ≡ w.cursor.head + 1
           held_head = handed.same_head ∙ took.next_head
 
-          pub held_more : length sets₁ ≡ length sets → length met₁ ≡ length met → length q₁ ≡ length q → Held sets₁ met₁ q₁ next₁
-          held_more ls lm lq = record {
-            runs = more;
-            list_fits = omega (arith, handed.list_fits);
-            sets_kept = ls ∙ h.sets_kept;
-            met_kept = lm ∙ h.met_kept;
-            q_kept = lq ∙ h.q_kept;
-          }
+          pub held_more : Held w₂
+          held_more = record { runs = more; same = same_then h.same (same_then took.same handed.same) }
             where
-              more : (code : List Bytecode) (locals : ℕ) → Begun code locals rules lows ups firsts edges sets₀ met₀ q₀ c₀ → Runs code locals (state_at (2 + length (keyed code)) sets₁ met₁ q₁ next₁)
+              more : (code : List Bytecode) (locals : ℕ) → Begun code locals t w₀ → Runs code locals (state w₂)
               more code locals b =
-                  let nodes : length met ≡ 2 + length (keyed code) = h.met_kept ∙ b.nodes in
-                  runs_turn code locals b.analyzable sets met q c next k took (omega (arith, b.sets_fit, h.met_kept, h.sets_kept)) nodes (h.q_kept ∙ b.list_long) within (h.runs code locals b) sets₁ met₁ q₁ next₁
-                  (subst (λ (n : ℕ). HandedOn n sets met q next (leads code k) (given code sets k) sets₁ met₁ q₁ next₁) nodes (stepped code b.analyzable.sound b.tables nodes))
+                  let nodes : length w.met.now ≡ 2 + length (keyed code) = nodes_kept b.nodes in
+                  runs_turn code locals b.analyzable w w₁ k took nodes (h.same.queue_long ∙ b.list_long) (h.runs code locals b) w₂
+                  (stepped code b.analyzable.sound b.tables (took.same.met_long ∙ nodes))
 
-    -- the end: the list is empty
-    pub held_done : (sets met q : List ℕ) (c : Cursor) → Held sets met q c → waiting q c ≡ []
-        → (code : List Bytecode) (locals : ℕ) → Begun code locals rules lows ups firsts edges sets₀ met₀ q₀ c₀ → Solved code locals c.head sets
+    -- the end: none waits
+    pub held_done : (w w₁ : Worklist) → Held w → Ended w w₁ → (code : List Bytecode) (locals : ℕ) → Begun code locals t w₀ → Solved code locals w₁.cursor.head w₁.sets.now
     unfolding state_of
-    held_done sets met q c h e code locals b =
-        let is = runs_done code locals b.analyzable (state_at (2 + length (keyed code)) sets met q c) e (h.runs code locals b) in
-        record { taken = ap (λ (s : State masks). s.taken) (sym is); final = ap (λ (s : State masks). s.sets) (sym is) }
+    held_done w w₁ h e code locals b =
+        let is = e.state_is ∙ sym (runs_done code locals b.analyzable (state w) e.none (h.runs code locals b)) in
+        record { taken = ap (λ (s : State masks). s.taken) is; final = take_all (2 + length (keyed code)) (map mask w₁.sets.now) (omega (arith, length-map w₁.sets.now mask, w₁.nodes, e.same.met_long, h.same.met_long, b.nodes)) ∙ ap (λ (s : State masks). s.sets) is }
 
--- ---- the beginning: all is 0, and key 1 is met and waits
+-- ---- the beginning: all is blank, and key 1 is met and waits
 
-module _ (code : List Bytecode) (locals : ℕ) (rules lows ups firsts edges sets met q : List ℕ) (input : RunInput code locals rules lows ups firsts edges sets met q)
-    (none c : Cursor) (q₁ : List ℕ) (first : none.head ≡ 0) (empty : none.len ≡ 0) (put : Queued q none 1 q₁ c) (long : length q₁ ≡ length q) where
-  no_sets : sets_of (2 + length (keyed code)) sets ≡ replicate (2 + length (keyed code)) 0
-  unfolding sets_of
-  no_sets = masks_zeros 64 set_words (2 + length (keyed code)) sets input.sets_blank
+module _ (code : List Bytecode) (locals : ℕ) (t : Tables) (sets : List LiveVarState) (met : List Bool) (q : List ℕ) (input : RunInput code locals t sets met q) where
+  no_sets : map mask sets ≡ replicate (2 + length (keyed code)) 0
+  no_sets =
+      ext_get_or 0 (map mask sets) (replicate (2 + length (keyed code)) 0) (omega (arith, length-map sets mask, input.sets_long, input.nodes, length-replicate {A = ℕ} (2 + length (keyed code)) 0))
+      (λ i h. input.sets_blank i ∙ sym (copies_at (2 + length (keyed code)) i 0))
 
-  none_met : met ≡ replicate (2 + length (keyed code)) 0
+  none_met : map flag met ≡ replicate (2 + length (keyed code)) 0
   none_met =
-      ext_get_or 0 met (replicate (2 + length (keyed code)) 0) (input.nodes ∙ sym (length-replicate {A = ℕ} (2 + length (keyed code)) 0))
-      (λ i h. input.met_blank i ∙ sym (copies_at (2 + length (keyed code)) i 0))
+      ext_get_or 0 (map flag met) (replicate (2 + length (keyed code)) 0) (omega (arith, length-map met flag, input.nodes, length-replicate {A = ℕ} (2 + length (keyed code)) 0))
+      (λ i h. get_or-map flag met i false ∙ ap flag (input.met_blank i) ∙ sym (copies_at (2 + length (keyed code)) i 0))
 
-  state_begun : state_at (2 + length (keyed code)) sets (set met 1 1) q₁ c ≡ begin (2 + length (keyed code)) 1
-  unfolding state_of begin
-  state_begun =
-      let list : waiting q₁ c ≡ 1 ∷ [] = put.queued ∙ ap (λ (l : List ℕ). l ++ (1 ∷ [])) (list_none q none empty) in
-      let start : c.head ≡ 0 = put.same_head ∙ first in
-      rw (no_sets, none_met, list, start)
-
-  pub begun : Begun code locals rules lows ups firsts edges sets (set met 1 1) q₁ c
-  begun = record {
+  pub begun : (none : Cursor) → none.head ≡ 0 → none.len ≡ 0 → (w : Worklist) → w.sets.now ≡ sets → w.met.now ≡ set met 1 true → Queued q none 1 w.queue.now w.cursor → length w.queue.now ≡ length q
+      → Begun code locals t w
+  begun none first empty w es em put long = record {
     analyzable = input.analyzable;
     tables = input.tables;
-    nodes = length-set met 1 1 ∙ input.nodes;
-    sets_fit = omega (arith, length-set met 1 1, input.sets_fit);
+    nodes = ap length em ∙ length-set met 1 true ∙ input.nodes;
     list_long = long ∙ input.list_long;
-    list_fits = omega (arith, put.same_head, put.longer, long, input.list_long);
-    state = state_begun;
+    state_is = here;
   }
+    where
+      here : state w ≡ begin (2 + length (keyed code)) 1
+      here = unfold state_of begin in
+          let list : waiting w.queue.now w.cursor ≡ 1 ∷ [] = put.queued ∙ ap (λ (l : List ℕ). l ++ (1 ∷ [])) (list_none q none empty) in
+          let start : w.cursor.head ≡ 0 = put.same_head ∙ first in
+          rw (es, em, map-set flag met 1 true, no_sets, none_met, list, start)
 
 -- ---- the arrays that solve makes
 
-part_blank : (m n k : ℕ) → get_or (take m (replicate {A = ℕ} n 0)) k 0 ≡ 0
-part_blank m n k =
-    by_lt k m (λ h. get_or-take m (replicate n 0) k 0 h ∙ copies_at n k 0)
-    (λ h. get_or-eq_default (take m (replicate n 0)) 0 {n = k} (omega (arith, length-take m (replicate {A = ℕ} n 0))))
+-- the front of a list that is blank
+part_blank : {A : Type 0} (xs : List A) (blank : A) (m k : ℕ) → ((j : ℕ) → get_or xs j blank ≡ blank) → get_or (take m xs) k blank ≡ blank
+part_blank xs blank m k h =
+    by_lt k m (λ l. get_or-take m xs k blank l ∙ h k) (λ l. get_or-eq_default (take m xs) blank {n = k} (omega (arith, length-take m xs)))
 
-module _ {code : List Bytecode} {locals : ℕ} {rules lows ups firsts edges : List ℕ} {m : ℕ} {sets : List ℕ} (input : SolveInput code locals rules lows ups firsts edges m sets) where
+module _ {code : List Bytecode} {locals : ℕ} {t : Tables} {m : ℕ} {sets : List LiveVarState} (input : SolveInput code locals t m sets) where
   pub few_nodes : m ≤ max_instructions
   few_nodes = omega (arith, input.count, keys_few code input.analyzable.sound, input.analyzable.few)
 
-  pub start_input : RunInput code locals rules lows ups firsts edges sets (take (m + 2 - 0) (drop 0 (replicate (max_instructions + 2) 0))) (replicate max_taken 0)
+  pub start_input : RunInput code locals t (take (m + 2) sets) (take (m + 2) (replicate (max_instructions + 2) false)) (replicate max_taken 0)
   start_input = record {
     analyzable = input.analyzable;
     tables = input.tables;
     nodes = long ∙ (omega (arith, input.count));
-    sets_fit = omega (arith, ap (λ (x : ℕ). x * set_words) long, input.sets_fit);
+    sets_long = length-take-le (m + 2) sets input.sets_fit ∙ sym long;
     list_long = length-replicate {A = ℕ} max_taken 0;
-    sets_blank = input.sets_blank;
-    met_blank = part_blank (m + 2 - 0) (max_instructions + 2);
+    sets_blank = λ k. ap (λ (l : List ℕ). get_or l k 0) (sym (take-map mask (m + 2) sets)) ∙ part_blank (map mask sets) 0 (m + 2) k input.sets_blank;
+    met_blank = λ k. part_blank (replicate (max_instructions + 2) false) false (m + 2) k (λ j. copies_at (max_instructions + 2) j false);
   }
     where
-      long : length (take (m + 2 - 0) (drop 0 (replicate {A = ℕ} (max_instructions + 2) 0))) ≡ m + 2
-      long = length-take (m + 2 - 0) (replicate (max_instructions + 2) 0) ∙ (omega (arith, few_nodes, length-replicate {A = ℕ} (max_instructions + 2) 0))
+      long : length (take (m + 2) (replicate {A = Bool} (max_instructions + 2) false)) ≡ m + 2
+      long = length-take-le (m + 2) (replicate (max_instructions + 2) false) (omega (arith, few_nodes, length-replicate {A = Bool} (max_instructions + 2) false))
+
+  -- the sets past those of the keys are as they were
+  pub solved_front : (r : ℕ) (new rest : List LiveVarState) → length new ≡ length (take (m + 2) sets) → Solved code locals r new → Solved code locals r (new ++ rest)
+  solved_front r new rest long solved = record {
+    taken = solved.taken;
+    final = rw (map-append) (take-append-le (2 + length (keyed code)) (map mask new) (map mask rest) (omega (arith, length-map new mask, long, length-take-le (m + 2) sets input.sets_fit, input.count))) ∙ solved.final;
+  }

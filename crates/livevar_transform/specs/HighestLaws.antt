@@ -1,14 +1,9 @@
 -- The highest Label and attribute id, looked for one instruction after the other. Assumes nothing.
-use Rattle.std.specs.Prelude.{◌≡◌, refl, Bool, cond, List, [], ◌∷◌, ◌++◌, map, ℕ, suc, ◌+◌, ◌≤◌, ◌<◌, max, length, drop}
-use Rattle.std.proofs.Common.{sym, ap, ap₂, ◌∙◌, add-one, arith, eq-eqb, ne_eqb, drop_of_length-le, drop-cons}
-use Rattle.base.specs.Refusals.{Accepted}
+use Rattle.std.specs.Prelude.{◌≡◌, refl, List, [], ◌∷◌, ◌++◌, map, ℕ, suc, ◌+◌, ◌≤◌, ◌<◌, max, length, drop}
+use Rattle.std.proofs.Common.{sym, ap, ap₂, ◌∙◌, add-one, arith, drop_of_length-le, drop-cons}
 use Rattle.base.specs.Lists.{gather}
 use Rattle.stackless_bytecode.specs.declared.Bytecode.{Bytecode}
-use Rattle.stackless_bytecode.specs.Kinds.{Label, at, nop, label_of}
-use Rattle.sheet.specs.Layout.{count_of, code_of, instruction_at}
-use Rattle.sheet.specs.Checks.{check_sheet}
-use Rattle.sheet.specs.CheckLaws.{code_length}
-use Rattle.livevar_analysis.specs.InputLaws.{code_at}
+use Rattle.stackless_bytecode.specs.Kinds.{at, nop, label_of}
 use Rattle.livevar_transform.specs.Rewrite.{highest, next_free_label, next_free_attr}
 
 -- ---- the highest Label and attribute id
@@ -21,23 +16,20 @@ highest_append (x ∷ xs) ys = ap (max x) (highest_append xs ys) ∙ (omega arit
 -- a turn of the loop: f gives what an instruction adds
 highest_more : (f : Bytecode → List ℕ) (code : List Bytecode) (k t : ℕ) (r : Bytecode) → k < length code → r ≡ at code k
     → max t (highest (gather f (drop k code))) ≡ max (max t (highest (f r))) (highest (gather f (drop (k + 1) code)))
-unfolding gather
 highest_more f code k t r l e =
     ap (λ (xs : List Bytecode). max t (highest (gather f xs))) (drop-cons code k nop l) ∙ ap (max t) (highest_append (f (at code k)) (gather f (drop (suc k) code)))
     ∙ ap₂ (λ (x : Bytecode) (j : ℕ). max t (max (highest (f x)) (highest (gather f (drop j code))))) (sym e) (sym (add-one k)) ∙ (omega arith)
 
 highest_end : (f : Bytecode → List ℕ) (code : List Bytecode) (k t : ℕ) → length code ≤ k → max t (highest (gather f (drop k code))) ≡ t
-unfolding gather highest
+unfolding highest
 highest_end f code k t l = ap (λ (xs : List Bytecode). max t (highest (gather f xs))) (drop_of_length-le code l) ∙ (omega arith)
 
-pub highest_turn : (f : Bytecode → List ℕ) (s : List ℕ) (k t x h : ℕ) (r : Bytecode) → check_sheet s ≡ Accepted → k < count_of s → r ≡ instruction_at s k → x ≡ max t (highest (f r))
-    → max t (highest (gather f (drop k (code_of s)))) ≡ h → max x (highest (gather f (drop (k + 1) (code_of s)))) ≡ h
-highest_turn f s k t x h r a l e q i =
-    ap (λ (y : ℕ). max y (highest (gather f (drop (k + 1) (code_of s))))) q
-    ∙ sym (highest_more f (code_of s) k t r (omega (arith, code_length s)) (e ∙ sym (code_at s a k l))) ∙ i
+pub highest_turn : (f : Bytecode → List ℕ) (code : List Bytecode) (k t x h : ℕ) (r : Bytecode) → k < length code → r ≡ at code k → x ≡ max t (highest (f r))
+    → max t (highest (gather f (drop k code))) ≡ h → max x (highest (gather f (drop (k + 1) code))) ≡ h
+highest_turn f code k t x h r l e q i = ap (λ (y : ℕ). max y (highest (gather f (drop (k + 1) code)))) q ∙ sym (highest_more f code k t r l e) ∙ i
 
-pub highest_done : (f : Bytecode → List ℕ) (s : List ℕ) (n k t h : ℕ) → n ≡ count_of s → n ≤ k → max t (highest (gather f (drop k (code_of s)))) ≡ h → t ≡ h
-highest_done f s n k t h e l i = sym (highest_end f (code_of s) k t (omega (arith, code_length s))) ∙ i
+pub highest_done : (f : Bytecode → List ℕ) (code : List Bytecode) (k t h : ℕ) → length code ≤ k → max t (highest (gather f (drop k code))) ≡ h → t ≡ h
+highest_done f code k t h l i = sym (highest_end f code k t l) ∙ i
 
 pub highest_start : (f : Bytecode → List ℕ) (code : List Bytecode) → max 0 (highest (gather f (drop 0 code))) ≡ highest (gather f code)
 highest_start f code = omega arith
@@ -46,20 +38,11 @@ highest_start f code = omega arith
 abbrev pub attr_of : Bytecode → List ℕ
 attr_of r = r.attr ∷ []
 
-pub label_raised : (t x : ℕ) (r : Bytecode) → r.kind ≡ Label → x ≡ max t r.one → x ≡ max t (highest (label_of r))
-unfolding label_of highest
-label_raised t x r q e = e ∙ (omega arith) ∙ sym (ap (λ (b : Bool). max t (highest (cond b (r.one ∷ []) []))) (eq-eqb r.kind Label q))
-
-pub label_same : (t : ℕ) (r : Bytecode) → (r.kind ≡ Label → ⊥) → t ≡ max t (highest (label_of r))
-unfolding label_of highest
-label_same t r q = (omega arith) ∙ sym (ap (λ (b : Bool). max t (highest (cond b (r.one ∷ []) []))) (ne_eqb r.kind Label q))
-
 pub attr_raised : (t x : ℕ) (r : Bytecode) → x ≡ max t r.attr → x ≡ max t (highest (attr_of r))
 unfolding highest
 attr_raised t x r e = e ∙ (omega arith)
 
 attrs_are : (code : List Bytecode) → gather attr_of code ≡ map (λ r. r.attr) code
-unfolding gather
 attrs_are [] = refl
 attrs_are (r ∷ rs) = ap (λ (l : List ℕ). r.attr ∷ l) (attrs_are rs)
 

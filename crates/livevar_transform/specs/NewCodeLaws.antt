@@ -1,27 +1,24 @@
 -- The new code, record behind record: what is written so far, the block of an edge, the kept instructions and all blocks. Assumes nothing.
-use Rattle.std.specs.Prelude.{◌≡◌, Bool, ℕ, suc, ◌+◌, ◌-◌, ◌*◌, ◌/◌, ◌%◌, ◌^◌, ◌≤◌, ◌<◌, eqb, get_or, refl, cond, List, [], ◌∷◌, ◌++◌, length, take, drop}
+use Rattle.std.specs.Prelude.{◌≡◌, Bool, true, false, ℕ, suc, ◌+◌, ◌-◌, ◌*◌, ◌/◌, ◌%◌, ◌^◌, ◌≤◌, ◌<◌, get_or, refl, cond, List, [], ◌∷◌, ◌++◌, length, take, drop}
 use Rattle.std.proofs.Common.{sym, ap, ap₂, ◌∙◌, subst, add-one, eq-eqb, ne_eqb, lt-ltb, length-drop, take-suc, take_all, length-take-le, arith, length-append}
 use Rattle.std.specs.Int.Count.{ones}
 use Rattle.base.specs.Sizes.{max_locals, record_bytes}
 use Rattle.base.specs.Lists.{joins}
 use Rattle.base.specs.WriteLaws.{drop_front}
 use Rattle.dataflow_domains.specs.Mask.{minus}
-use Rattle.dataflow_domains.specs.MaskLaws.{minus_lt}
+use Rattle.dataflow_domains.specs.MaskLaws.{minus_lt, ones_bound}
 use Rattle.dataflow_domains.specs.Members.{members, Lowest}
-use Rattle.dataflow_domains.specs.MemberLaws.{walk_more, walk_end, members_length}
+use Rattle.dataflow_domains.specs.MemberLaws.{walk_more, walk_end, walk_falls, members_length}
 use Rattle.stackless_bytecode.specs.declared.Bytecode.{Bytecode}
 use Rattle.stackless_bytecode.specs.Kinds.{Branch, Call, Label, Jump, Destroy, at, nop}
-use Rattle.sheet.specs.Layout.{count_of, code_of, instruction_at, encode}
-use Rattle.sheet.specs.Checks.{check_sheet}
-use Rattle.base.specs.Refusals.{Accepted}
-use Rattle.livevar_analysis.specs.InputLaws.{code_at}
+use Rattle.sheet.specs.Layout.{encode}
 use Rattle.sheet_writer.specs.Written.{placed}
 use Rattle.sheet_writer.specs.RecordsLaws.{placed_none, placed_more, placed_one, tail_put}
+use Rattle.livevar_transform.specs.declared.plan.Fate.{Fate}
 use Rattle.livevar_transform.specs.declared.plan.Next.{Next}
 use Rattle.livevar_transform.specs.Rewrite.{made, aimed, into, destroys, destroy_block, target_of}
 use Rattle.livevar_transform.specs.PieceLaws.{destroys_length, destroy_at}
-use Rattle.dataflow_domains.specs.Sets.{stored_set}
-use Rattle.livevar_transform.specs.Plan.{past, numbers_at, goes_at, aimed_at, stands_at, kept_at, added_at, kept_by, added_by, code_by}
+use Rattle.livevar_transform.specs.Plan.{fate_at, goes, merges, past, numbers_at, goes_at, aimed_at, stands_at, kept_at, added_at, kept_by, added_by, code_by}
 use Rattle.livevar_transform.specs.NumberLaws.{some_ones, none_lost, some_lost}
 
 -- ---- the Destroys of a set: its members are taken out one by one, the least first
@@ -41,6 +38,10 @@ module _ {refs : List ℕ} {first : ℕ} {d : List ℕ} {m i : ℕ} {out : List 
   walk_lt f =
       let some : 0 < length (members max_locals m) = omega (arith, members_length max_locals m w.small, some_ones m f) in
       omega (arith, length-drop i refs, ap length w.rest, some)
+
+  -- they are fewer than the set has elements, while one is left
+  pub walk_place : {a x : ℕ} → Lowest m x → refs ≡ members max_locals a → a < 2 ^ max_locals → (i < ones a) × (ones a ≤ max_locals)
+  walk_place {a} {x} low e small = (omega (arith, walk_lt (λ z. omega (arith, z, walk_falls m x low.has)), ap length e, members_length max_locals a small), ones_bound max_locals a small)
 
   taken_length : length (take i (destroys first refs)) ≡ i
   taken_length = length-take-le i (destroys first refs) (omega (arith, destroys_length first refs, w.inside))
@@ -121,7 +122,7 @@ goes_old m old label e = sym (ap (λ (xs : List ℕ). goes_at xs old label) (non
 pub goes_new : (m old label : ℕ) → (m ≡ 0 → ⊥) → m < 2 ^ max_locals → label ≡ goes_at (members max_locals m) old label
 goes_new m old label f h = sym (ap (λ (b : Bool). cond b label old) (lt-ltb 0 (length (members max_locals m)) (some_lost m f h)))
 
-pub aimed_by : (lost : List ℕ) (k : ℕ) (x y : Next) (r : Bytecode) (a b one two : ℕ) → a ≡ stored_set lost (2 * k) → b ≡ stored_set lost (2 * k + 1) → one ≡ goes_at (members max_locals a) r.one x.label → y ≡ past x (members max_locals a)
+pub aimed_by : (lost : List ℕ) (k : ℕ) (x y : Next) (r : Bytecode) (a b one two : ℕ) → a ≡ get_or lost (2 * k) 0 → b ≡ get_or lost (2 * k + 1) 0 → one ≡ goes_at (members max_locals a) r.one x.label → y ≡ past x (members max_locals a)
     → two ≡ goes_at (members max_locals b) r.two y.label → aimed r one two ≡ aimed_at lost k x r
 unfolding aimed_at
 aimed_by lost k x y r a b one two ea eb eo ey et =
@@ -129,51 +130,48 @@ aimed_by lost k x y r a b one two ea eb eo ey et =
     (et ∙ ap₂ (λ (m : ℕ) (z : Next). goes_at (members max_locals m) r.two z.label) eb (ey ∙ ap (λ (m : ℕ). past x (members max_locals m)) ea))
 
 -- the label of edge e, in the instruction of its Branch
-module _ (s : List ℕ) (a : check_sheet s ≡ Accepted) (e : ℕ) (r : Bytecode) (l : e / 2 < count_of s) (q : r ≡ instruction_at s (e / 2)) where
-  old_is : at (code_of s) (e / 2) ≡ r
-  old_is = code_at s a (e / 2) l ∙ sym q
-
-  pub target_then : e % 2 ≡ 0 → r.one ≡ target_of (code_of s) e
+module _ (code : List Bytecode) (e : ℕ) (r : Bytecode) (is : r ≡ at code (e / 2)) where
+  pub target_then : e % 2 ≡ 0 → r.one ≡ target_of code e
   unfolding target_of
-  target_then z = sym (ap (λ (b : Bool). cond b (at (code_of s) (e / 2)).one (at (code_of s) (e / 2)).two) (eq-eqb (e % 2) 0 z) ∙ ap (λ (x : Bytecode). x.one) old_is)
+  target_then z = sym (ap (λ (b : Bool). cond b (at code (e / 2)).one (at code (e / 2)).two) (eq-eqb (e % 2) 0 z) ∙ ap (λ (x : Bytecode). x.one) (sym is))
 
-  pub target_else : (e % 2 ≡ 0 → ⊥) → r.two ≡ target_of (code_of s) e
+  pub target_else : (e % 2 ≡ 0 → ⊥) → r.two ≡ target_of code e
   unfolding target_of
-  target_else z = sym (ap (λ (b : Bool). cond b (at (code_of s) (e / 2)).one (at (code_of s) (e / 2)).two) (ne_eqb (e % 2) 0 z) ∙ ap (λ (x : Bytecode). x.two) old_is)
+  target_else z = sym (ap (λ (b : Bool). cond b (at code (e / 2)).one (at code (e / 2)).two) (ne_eqb (e % 2) 0 z) ∙ ap (λ (x : Bytecode). x.two) (sym is))
 
 -- ---- what stands for an offset
 
-module _ (code : List Bytecode) (fates lost : List ℕ) (k : ℕ) (x : Next) (r : Bytecode) (is : r ≡ at code k) where
+module _ (code : List Bytecode) (fates : List Fate) (lost : List ℕ) (k : ℕ) (x : Next) (r : Bytecode) (is : r ≡ at code k) where
   pub stands_branch : r.kind ≡ Branch → aimed_at lost k x r ≡ stands_at code fates lost k x
   unfolding stands_at
   stands_branch q =
-      ap (aimed_at lost k x) is ∙ sym (ap (λ (b : Bool). cond b (aimed_at lost k x (at code k)) (cond (eqb (get_or fates k 0) 2) (into (at code k) (at code (suc k)).dsts) (at code k))) (eq-eqb (at code k).kind Branch (ap (λ (y : Bytecode). y.kind) (sym is) ∙ q)))
+      ap (aimed_at lost k x) is ∙ sym (ap (λ (b : Bool). cond b (aimed_at lost k x (at code k)) (cond (merges (fate_at fates k)) (into (at code k) (at code (suc k)).dsts) (at code k))) (eq-eqb (at code k).kind Branch (ap (λ (y : Bytecode). y.kind) (sym is) ∙ q)))
 
-  other : (r.kind ≡ Branch → ⊥) → stands_at code fates lost k x ≡ cond (eqb (get_or fates k 0) 2) (into (at code k) (at code (suc k)).dsts) (at code k)
+  other : (r.kind ≡ Branch → ⊥) → stands_at code fates lost k x ≡ cond (merges (fate_at fates k)) (into (at code k) (at code (suc k)).dsts) (at code k)
   unfolding stands_at
-  other q = ap (λ (b : Bool). cond b (aimed_at lost k x (at code k)) (cond (eqb (get_or fates k 0) 2) (into (at code k) (at code (suc k)).dsts) (at code k))) (ne_eqb (at code k).kind Branch (λ z. q (ap (λ (y : Bytecode). y.kind) is ∙ z)))
+  other q = ap (λ (b : Bool). cond b (aimed_at lost k x (at code k)) (cond (merges (fate_at fates k)) (into (at code k) (at code (suc k)).dsts) (at code k))) (ne_eqb (at code k).kind Branch (λ z. q (ap (λ (y : Bytecode). y.kind) is ∙ z)))
 
-  pub stands_merged : (a : Bytecode) → get_or fates k 0 ≡ 2 → (r.kind ≡ Branch → ⊥) → a ≡ at code (k + 1) → into r a.dsts ≡ stands_at code fates lost k x
+  pub stands_merged : (a : Bytecode) → merges (fate_at fates k) ≡ true → (r.kind ≡ Branch → ⊥) → a ≡ at code (k + 1) → into r a.dsts ≡ stands_at code fates lost k x
   stands_merged a m q g =
-      ap₂ (λ (y z : Bytecode). into y z.dsts) is (g ∙ ap (at code) (add-one k)) ∙ sym (other q ∙ ap (λ (b : Bool). cond b (into (at code k) (at code (suc k)).dsts) (at code k)) (eq-eqb _ 2 m))
+      ap₂ (λ (y z : Bytecode). into y z.dsts) is (g ∙ ap (at code) (add-one k)) ∙ sym (other q ∙ ap (λ (b : Bool). cond b (into (at code k) (at code (suc k)).dsts) (at code k)) m)
 
-  pub stands_plain : (get_or fates k 0 ≡ 2 → ⊥) → (r.kind ≡ Branch → ⊥) → r ≡ stands_at code fates lost k x
-  stands_plain m q = is ∙ sym (other q ∙ ap (λ (b : Bool). cond b (into (at code k) (at code (suc k)).dsts) (at code k)) (ne_eqb _ 2 m))
+  pub stands_plain : merges (fate_at fates k) ≡ false → (r.kind ≡ Branch → ⊥) → r ≡ stands_at code fates lost k x
+  stands_plain m q = is ∙ sym (other q ∙ ap (λ (b : Bool). cond b (into (at code k) (at code (suc k)).dsts) (at code k)) m)
 
 -- ---- the kept instructions
 
-module _ (code : List Bytecode) (fates lost : List ℕ) (k : ℕ) (x : Next) where
-  pub kept_out : get_or fates k 0 ≡ 1 → kept_at code fates lost k x ≡ []
+module _ (code : List Bytecode) (fates : List Fate) (lost : List ℕ) (k : ℕ) (x : Next) where
+  pub kept_out : goes (fate_at fates k) ≡ true → kept_at code fates lost k x ≡ []
   unfolding kept_at
-  kept_out e = ap (λ (b : Bool). cond b [] (stands_at code fates lost k x ∷ [])) (eq-eqb _ 1 e)
+  kept_out e = ap (λ (b : Bool). cond b [] (stands_at code fates lost k x ∷ [])) e
 
-  pub kept_in : (r : Bytecode) → (get_or fates k 0 ≡ 1 → ⊥) → r ≡ stands_at code fates lost k x → kept_at code fates lost k x ≡ r ∷ []
+  pub kept_in : (r : Bytecode) → goes (fate_at fates k) ≡ false → r ≡ stands_at code fates lost k x → kept_at code fates lost k x ≡ r ∷ []
   unfolding kept_at
-  kept_in r e q = ap₂ (λ (b : Bool) (y : Bytecode). cond b [] (y ∷ [])) (ne_eqb _ 1 e) (sym q)
+  kept_in r e q = ap₂ (λ (b : Bool) (y : Bytecode). cond b [] (y ∷ [])) e (sym q)
 
 -- ---- the block of an edge by the table
 
-module _ (code : List Bytecode) (lost : List ℕ) (e m : ℕ) (x : Next) (l : m ≡ stored_set lost e) where
+module _ (code : List Bytecode) (lost : List ℕ) (e m : ℕ) (x : Next) (l : m ≡ get_or lost e 0) where
   pub block_on_lem : (t : ℕ) (d out : List ℕ) → t ≡ target_of code e → out ≡ placed (destroy_block x.attr x.label t (members max_locals m)) d → out ≡ placed (added_at code lost e x) d
   unfolding added_at
   block_on_lem t d out p q = q ∙ ap₂ (λ (y z : ℕ). placed (destroy_block x.attr x.label y (members max_locals z)) d) p l
@@ -209,13 +207,13 @@ pub pieces_end : (f : ℕ → List Bytecode) (k n m : ℕ) (d out : List ℕ) �
 pieces_end f k n m d out e p q = (p ∙ ap (λ (x : ℕ). length (joins x f)) e, q ∙ ap (λ (x : ℕ). placed (joins x f) d) e)
 
 -- one kept instruction more, and one block more, by the numbers x that have come
-pub kept_pieces : (code : List Bytecode) (fates lost : List ℕ) (first x : Next) (k a : ℕ) (d out new : List ℕ) → x ≡ numbers_at first lost (2 * k) → out ≡ placed (joins k (kept_by code fates lost first)) d
+pub kept_pieces : (code : List Bytecode) (fates : List Fate) (lost : List ℕ) (first x : Next) (k a : ℕ) (d out new : List ℕ) → x ≡ numbers_at first lost (2 * k) → out ≡ placed (joins k (kept_by code fates lost first)) d
     → a ≡ record_bytes * length (joins k (kept_by code fates lost first)) → new ≡ placed (kept_at code fates lost k x) (take (length out - a) (drop a out))
     → take a out ++ (new ++ drop (length out - a) (drop a out)) ≡ placed (joins (k + 1) (kept_by code fates lost first)) d
 kept_pieces code fates lost first x k a d out new ex e q w =
     pieces_more (kept_by code fates lost first) k a d out new e q (w ∙ ap (λ (y : Next). placed (kept_at code fates lost k y) (take (length out - a) (drop a out))) ex)
 
-pub kept_long : (code : List Bytecode) (fates lost : List ℕ) (first x : Next) (k m c : ℕ) → x ≡ numbers_at first lost (2 * k) → m ≡ length (joins k (kept_by code fates lost first)) → c ≡ length (kept_at code fates lost k x)
+pub kept_long : (code : List Bytecode) (fates : List Fate) (lost : List ℕ) (first x : Next) (k m c : ℕ) → x ≡ numbers_at first lost (2 * k) → m ≡ length (joins k (kept_by code fates lost first)) → c ≡ length (kept_at code fates lost k x)
     → m + c ≡ length (joins (k + 1) (kept_by code fates lost first))
 kept_long code fates lost first x k m c ex e q = pieces_length (kept_by code fates lost first) k m c e (q ∙ ap (λ (y : Next). length (kept_at code fates lost k y)) ex)
 
@@ -226,7 +224,7 @@ added_pieces code lost first x e a d out new ex i q w =
     pieces_more (added_by code lost first) e a d out new i q (w ∙ ap (λ (y : Next). placed (added_at code lost e y) (take (length out - a) (drop a out))) ex)
 
 -- the kept instructions, and all blocks behind them
-pub all_written : (code : List Bytecode) (fates lost : List ℕ) (n : ℕ) (first : Next) (a : ℕ) (d out new : List ℕ) → out ≡ placed (joins n (kept_by code fates lost first)) d
+pub all_written : (code : List Bytecode) (fates : List Fate) (lost : List ℕ) (n : ℕ) (first : Next) (a : ℕ) (d out new : List ℕ) → out ≡ placed (joins n (kept_by code fates lost first)) d
     → a ≡ record_bytes * length (joins n (kept_by code fates lost first)) → new ≡ placed (joins (2 * n) (added_by code lost first)) (take (length out - a) (drop a out))
     → take a out ++ (new ++ drop (length out - a) (drop a out)) ≡ placed (code_by code fates lost n first) d
 all_written code fates lost n first a d out new p q w =

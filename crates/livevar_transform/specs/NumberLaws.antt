@@ -1,6 +1,6 @@
 -- The numbers that come next, by the table of what edges lose: bounds, what the blocks use up, and when they fit. Assumes nothing.
-use Rattle.std.specs.Prelude.{◌≡◌, Bool, true, not, ◌&&◌, eqb, leb, ltb, get_or, refl, cond, List, [], ◌∷◌, ℕ, zero, suc, ◌+◌, ◌-◌, ◌*◌, ◌^◌, ◌≤◌, ◌<◌, length}
-use Rattle.std.proofs.Common.{sym, ap, ap₂, ◌∙◌, subst, ⊎_elim, add-zero, add-one, eqb-true, leb-true, lt-ltb, eq-eqb, ne_eqb, arith, length-append}
+use Rattle.std.specs.Prelude.{◌≡◌, Bool, true, false, not, ◌&&◌, eqb, leb, ltb, get_or, refl, cond, List, [], ◌∷◌, ℕ, zero, suc, ◌+◌, ◌-◌, ◌*◌, ◌^◌, ◌≤◌, ◌<◌, length}
+use Rattle.std.proofs.Common.{sym, ap, ap₂, ◌∙◌, subst, ⊎_elim, add-zero, add-one, eqb-true, leb-true, lt-ltb, arith, length-append}
 use Rattle.std.specs.Int.Count.{ones}
 use Rattle.base.specs.Sizes.{record_bytes, max_locals, max_number, max_instructions}
 use Rattle.base.specs.Lists.{keep, count, joins}
@@ -8,15 +8,15 @@ use Rattle.base.specs.ListLaws.{by_test, by_eq, or-true, and-true}
 use Rattle.base.specs.JoinLaws.{joins_length, total_same, count_total, count_in, count_out, count_le}
 use Rattle.dataflow_domains.specs.Mask.{holds}
 use Rattle.dataflow_domains.specs.MaskLaws.{sub_empty, ones_zero, ones_same}
-use Rattle.dataflow_domains.specs.Sets.{stored_set}
 use Rattle.dataflow_domains.specs.Members.{members}
 use Rattle.dataflow_domains.specs.MemberLaws.{walk_end, members_length}
 use Rattle.stackless_bytecode.specs.declared.Bytecode.{Bytecode}
+use Rattle.livevar_transform.specs.declared.plan.Fate.{Fate}
 use Rattle.livevar_transform.specs.declared.plan.Next.{Next}
 use Rattle.livevar_transform.specs.declared.plan.Counts.{Counts}
 use Rattle.livevar_transform.specs.Rewrite.{block_size, target_of}
 use Rattle.livevar_transform.specs.PieceLaws.{size_is, block_size_lem}
-use Rattle.livevar_transform.specs.Plan.{PlanRoom, lost_at, past, numbers_at, NextBelow, next_room, LowNext, Counted, stands_at, kept_at, added_at, kept_by, added_by, code_by, NewBlockRoom, BlockFits, LabelsFit, Fitting}
+use Rattle.livevar_transform.specs.Plan.{fate_at, goes, lost_at, past, numbers_at, NextBelow, next_room, LowNext, Counted, stands_at, kept_at, added_at, kept_by, added_by, code_by, NewBlockRoom, BlockFits, LabelsFit, Fitting}
 use Rattle.livevar_transform.specs.RewriteWork.{fit_between}
 
 -- ---- the elements of a set, and their number
@@ -70,16 +70,16 @@ past_below x y m h e = subst (NextBelow (2 * next_room)) (sym e) (record { label
 pub wide_below : (x : Next) → NextBelow next_room x → NextBelow (2 * next_room) x
 wide_below x h = record { label = omega (arith, h.label); attr = omega (arith, h.attr) }
 
-pub past_two : (lost : List ℕ) (k a b : ℕ) (x y z : Next) → y ≡ past x (members max_locals a) → z ≡ past y (members max_locals b) → a ≡ stored_set lost (2 * k) → b ≡ stored_set lost (2 * k + 1)
+pub past_two : (lost : List ℕ) (k a b : ℕ) (x y z : Next) → y ≡ past x (members max_locals a) → z ≡ past y (members max_locals b) → a ≡ get_or lost (2 * k) 0 → b ≡ get_or lost (2 * k + 1) 0
     → z ≡ past (past x (lost_at lost (2 * k))) (lost_at lost (2 * k + 1))
 past_two lost k a b x y z ey ez ea eb = ez ∙ ap₂ (λ (w : Next) (m : ℕ). past w (members max_locals m)) (ey ∙ ap (λ (m : ℕ). past x (members max_locals m)) ea) eb
 
 -- the labels of the edges of offset k fit
-module _ (lost : List ℕ) (k a : ℕ) (x : Next) (f : LabelsFit lost k x) (ea : a ≡ stored_set lost (2 * k)) where
+module _ (lost : List ℕ) (k a : ℕ) (x : Next) (f : LabelsFit lost k x) (ea : a ≡ get_or lost (2 * k) 0) where
   pub label_one : 0 < length (members max_locals a) → x.label ≤ max_number
   label_one w = f.one (subst (λ (m : ℕ). 0 < length (members max_locals m)) ea w)
 
-  pub label_two : (b : ℕ) (y : Next) → b ≡ stored_set lost (2 * k + 1) → y ≡ past x (members max_locals a) → 0 < length (members max_locals b) → y.label ≤ max_number
+  pub label_two : (b : ℕ) (y : Next) → b ≡ get_or lost (2 * k + 1) 0 → y ≡ past x (members max_locals a) → 0 < length (members max_locals b) → y.label ≤ max_number
   label_two b y eb ey w =
       let same : y.label ≡ (past x (lost_at lost (2 * k))).label = ap (λ (z : Next). z.label) (ey ∙ ap (λ (m : ℕ). past x (members max_locals m)) ea) in
       omega (arith, f.two (subst (λ (m : ℕ). 0 < length (members max_locals m)) eb w))
@@ -103,7 +103,7 @@ module _ (first : Next) (lost : List ℕ) where
   steps : (e : ℕ) → ((numbers_at first lost e).label ≤ first.label + e) × ((numbers_at first lost e).attr ≤ first.attr + (max_locals + 2) * e)
   unfolding numbers_at
   steps zero = (omega arith, omega arith)
-  steps (suc e) = let p = past_small (numbers_at first lost e) (stored_set lost e) in (omega (arith, (steps e).0, p.0), omega (arith, (steps e).1, p.1))
+  steps (suc e) = let p = past_small (numbers_at first lost e) (get_or lost e 0) in (omega (arith, (steps e).0, p.0), omega (arith, (steps e).1, p.1))
 
   pub numbers_small : (e : ℕ) (x : Next) → LowNext first → e ≤ 2 * max_instructions → x ≡ numbers_at first lost e → NextBelow next_room x
   numbers_small e x h l q = subst (NextBelow next_room) (sym q) (record { label = omega (arith, (steps e).0, h.label); attr = omega (arith, (steps e).1, h.attr) })
@@ -158,7 +158,7 @@ module _ (first : Next) (lost : List ℕ) where
   }
 
 -- by a set that is read from the table
-module _ (lost : List ℕ) (e m : ℕ) (x : Next) (is : m ≡ stored_set lost e) where
+module _ (lost : List ℕ) (e m : ℕ) (x : Next) (is : m ≡ get_or lost e 0) where
   pub past_as : (y : Next) → y ≡ past x (members max_locals m) → y ≡ past x (lost_at lost e)
   past_as y q = q ∙ ap (λ (z : ℕ). past x (members max_locals z)) is
 
@@ -198,6 +198,10 @@ module _ (code : List Bytecode) (first : Next) (lost : List ℕ) where
   pub block_inside : (n e : ℕ) → e < 2 * n → length (joins e (added_by code lost first)) + block_size (lost_at lost e) ≤ length (joins (2 * n) (added_by code lost first))
   block_inside n e l = omega (arith, attr_is e, attr_is (2 * n), attr_mono first lost e (2 * n) l)
 
+  -- where it begins, and where it ends
+  pub block_place : (n e : ℕ) (x : Next) → e < 2 * n → x ≡ numbers_at first lost e → (x.attr - first.attr) + block_size (lost_at lost e) ≤ length (joins (2 * n) (added_by code lost first))
+  block_place n e x l q = omega (arith, (written_is e x q).1, block_inside n e l)
+
   pub block_fits : (n e size : ℕ) (x : Next) → Fitting lost n first → e < 2 * n → x ≡ numbers_at first lost e → record_bytes * block_size (lost_at lost e) ≤ size → BlockFits (lost_at lost e) x size
   block_fits n e size x f l q w = record {
     label = λ h. omega (arith, f.label e l h, ap (λ (y : Next). y.label) q);
@@ -205,38 +209,46 @@ module _ (code : List Bytecode) (first : Next) (lost : List ℕ) where
     records = w;
   }
 
-  module _ (fates : List ℕ) where
-    kept_size : (k : ℕ) → length (kept_by code fates lost first k) ≡ cond (not (eqb (get_or fates k 0) 1)) 1 0
+  module _ (fates : List Fate) where
+    kept_size : (k : ℕ) → length (kept_by code fates lost first k) ≡ cond (not (goes (fate_at fates k))) 1 0
     unfolding kept_at
-    kept_size k = by_test (λ b. length (cond b [] (stands_at code fates lost k (numbers_at first lost (2 * k)) ∷ [])) ≡ cond (not b) 1 0) (eqb (get_or fates k 0) 1) (λ e. refl) (λ e. refl)
+    kept_size k = by_test (λ b. length (cond b [] (stands_at code fates lost k (numbers_at first lost (2 * k)) ∷ [])) ≡ cond (not b) 1 0) (goes (fate_at fates k)) (λ e. refl) (λ e. refl)
 
-    kept_length : (n : ℕ) → length (joins n (kept_by code fates lost first)) ≡ count n (λ k. not (eqb (get_or fates k 0) 1))
-    kept_length n = joins_length n (kept_by code fates lost first) ∙ total_same n _ _ kept_size ∙ sym (count_total n (λ k. not (eqb (get_or fates k 0) 1)))
+    kept_length : (n : ℕ) → length (joins n (kept_by code fates lost first)) ≡ count n (λ k. not (goes (fate_at fates k)))
+    kept_length n = joins_length n (kept_by code fates lost first) ∙ total_same n _ _ kept_size ∙ sym (count_total n (λ k. not (goes (fate_at fates k))))
 
     pub code_parts : (n : ℕ) → length (code_by code fates lost n first) ≡ length (joins n (kept_by code fates lost first)) + length (joins (2 * n) (added_by code lost first))
     code_parts n = length-append (joins n (kept_by code fates lost first)) (joins (2 * n) (added_by code lost first))
 
-    pub length_is : (n kept : ℕ) (last : Next) → kept ≡ count n (λ k. not (eqb (get_or fates k 0) 1)) → last ≡ numbers_at first lost (2 * n) → kept + (last.attr - first.attr) ≡ length (code_by code fates lost n first)
+    pub length_is : (n kept : ℕ) (last : Next) → kept ≡ count n (λ k. not (goes (fate_at fates k))) → last ≡ numbers_at first lost (2 * n) → kept + (last.attr - first.attr) ≡ length (code_by code fates lost n first)
     length_is n kept last k q = ap₂ ◌+◌ (k ∙ sym (kept_length n)) (written_is (2 * n) last q).1 ∙ sym (code_parts n)
 
 -- ---- the count
 
-abbrev kept : List ℕ → ℕ → Bool
-kept fates k = not (eqb (get_or fates k 0) 1)
+pub not_true : {b : Bool} → not b ≡ true → b ≡ false
+not_true {b = true} e = sym e
+not_true {b = false} e = refl
 
-pub kept_none : (fates : List ℕ) → 0 ≡ count 0 (λ k. not (eqb (get_or fates k 0) 1))
+pub not_false : {b : Bool} → not b ≡ false → b ≡ true
+not_false {b = true} e = refl
+not_false {b = false} e = sym e
+
+abbrev kept : List Fate → ℕ → Bool
+kept fates k = not (goes (fate_at fates k))
+
+pub kept_none : (fates : List Fate) → 0 ≡ count 0 (λ k. not (goes (fate_at fates k)))
 unfolding count
 kept_none fates = refl
 
-module _ (fates : List ℕ) (k a : ℕ) (e : a ≡ count k (λ j. not (eqb (get_or fates j 0) 1))) where
-  pub kept_more : (get_or fates k 0 ≡ 1 → ⊥) → a + 1 ≡ count (k + 1) (λ j. not (eqb (get_or fates j 0) 1))
-  kept_more f = add-one a ∙ ap suc e ∙ sym (ap (λ (j : ℕ). count j (kept fates)) (add-one k) ∙ count_in k (kept fates) (ap not (ne_eqb _ 1 f)))
+module _ (fates : List Fate) (k a : ℕ) (e : a ≡ count k (λ j. not (goes (fate_at fates j)))) where
+  pub kept_more : goes (fate_at fates k) ≡ false → a + 1 ≡ count (k + 1) (λ j. not (goes (fate_at fates j)))
+  kept_more f = add-one a ∙ ap suc e ∙ sym (ap (λ (j : ℕ). count j (kept fates)) (add-one k) ∙ count_in k (kept fates) (ap not f))
 
-  pub kept_same : get_or fates k 0 ≡ 1 → a ≡ count (k + 1) (λ j. not (eqb (get_or fates j 0) 1))
-  kept_same f = e ∙ sym (ap (λ (j : ℕ). count j (kept fates)) (add-one k) ∙ count_out k (kept fates) (ap not (eq-eqb _ 1 f)))
+  pub kept_same : goes (fate_at fates k) ≡ true → a ≡ count (k + 1) (λ j. not (goes (fate_at fates j)))
+  kept_same f = e ∙ sym (ap (λ (j : ℕ). count j (kept fates)) (add-one k) ∙ count_out k (kept fates) (ap not f))
 
-pub counts_small : {fates lost : List ℕ} {n : ℕ} {first : Next} {c : Counts} → PlanRoom fates lost n → LowNext first → Counted fates lost n first c → (c.kept ≤ max_instructions) × NextBelow next_room c.next
-counts_small {fates} {lost} {n} {first} {c} room low k = (omega (arith, room.few, k.kept, count_le n (kept fates)), numbers_small first lost (2 * n) c.next low (omega (arith, room.few)) k.next)
+pub counts_small : {fates : List Fate} {lost : List ℕ} {n : ℕ} {first : Next} {c : Counts} → n ≤ max_instructions → LowNext first → Counted fates lost n first c → (c.kept ≤ max_instructions) × NextBelow next_room c.next
+counts_small {fates} {lost} {n} {first} {c} few low k = (omega (arith, few, k.kept, count_le n (kept fates)), numbers_small first lost (2 * n) c.next low (omega (arith, few)) k.next)
 
-pub counted : (fates lost : List ℕ) (n k a : ℕ) (first x : Next) → k ≡ n → a ≡ count k (λ j. not (eqb (get_or fates j 0) 1)) → x ≡ numbers_at first lost (2 * k) → Counted fates lost n first (record { kept = a; next = x })
+pub counted : (fates : List Fate) (lost : List ℕ) (n k a : ℕ) (first x : Next) → k ≡ n → a ≡ count k (λ j. not (goes (fate_at fates j))) → x ≡ numbers_at first lost (2 * k) → Counted fates lost n first (record { kept = a; next = x })
 counted fates lost n k a first x e p q = record { kept = p ∙ ap (λ (j : ℕ). count j (kept fates)) e; next = q ∙ ap (λ (j : ℕ). numbers_at first lost (2 * j)) e }

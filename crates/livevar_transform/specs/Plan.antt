@@ -1,13 +1,12 @@
 -- The plan of a rewriting: what is read for it, its two tables, and the new code that they say. Assumes nothing.
-use Rattle.std.specs.Prelude.{◌≡◌, Bool, false, cond, not, List, [], ◌∷◌, ◌++◌, ℕ, zero, suc, ◌+◌, ◌*◌, ◌/◌, ◌^◌, ◌≤◌, ◌<◌, eqb, ltb, get_or, length}
+use Rattle.std.specs.Prelude.{◌≡◌, Bool, true, false, cond, not, List, [], ◌∷◌, ◌++◌, ℕ, zero, suc, ◌+◌, ◌*◌, ◌/◌, ◌^◌, ◌≤◌, ◌<◌, eqb, ltb, get_or, length}
 use Rattle.std.specs.Int.Bits.{bit_and}
 use Rattle.std.specs.Int.Count.{ones}
-use Rattle.base.specs.Sizes.{set_words, pair_bytes, max_locals, max_number, max_instructions, record_bytes}
+use Rattle.base.specs.Sizes.{pair_bytes, max_locals, max_number, record_bytes}
 use Rattle.base.specs.Refusals.{Accepted}
 use Rattle.base.specs.Lists.{count, joins}
 use Rattle.base.specs.Bytes.{part}
 use Rattle.dataflow_domains.specs.Mask.{minus}
-use Rattle.dataflow_domains.specs.Sets.{stored_set}
 use Rattle.dataflow_domains.specs.Members.{members}
 use Rattle.stackless_bytecode.specs.declared.Bytecode.{Bytecode}
 use Rattle.stackless_bytecode.specs.Kinds.{Branch, at}
@@ -15,6 +14,8 @@ use Rattle.stackless_bytecode.specs.Slots.{Resolved}
 use Rattle.sheet.specs.Layout.{count_of, code_of}
 use Rattle.sheet.specs.Checks.{check_sheet}
 use Rattle.livevar_analysis.specs.Analysis.{LiveVarInfo, info_in}
+use Rattle.livevar_transform.specs.declared.plan.Fate.{Fate}
+use Rattle.livevar_transform.specs.declared.plan.Fate.TheVariants.{Kept, Dropped, Merged}
 use Rattle.livevar_transform.specs.declared.plan.Next.{Next}
 use Rattle.livevar_transform.specs.declared.plan.Counts.{Counts}
 use Rattle.livevar_transform.specs.Rewrite.{aimed, into, destroy_block, block_size, is_merged, is_dropped, target_of, lost_refs}
@@ -44,9 +45,23 @@ unfoldable pub is_behind : List Bytecode → List LiveVarInfo → ℕ → Bool
 is_behind code info zero = false
 is_behind code info (suc k) = is_merged code info k
 
--- 1: it goes; 2: it is kept with the destination of the Assign behind it; 0: it is kept
-unfoldable pub fate_of : List Bytecode → List LiveVarInfo → ℕ → ℕ
-fate_of code info k = cond (is_dropped code info k) 1 (cond (is_merged code info k) 2 0)
+-- it goes; it is kept with the destination of the Assign behind it; or it is kept
+unfoldable pub fate_of : List Bytecode → List LiveVarInfo → ℕ → Fate
+fate_of code info k = cond (is_dropped code info k) Dropped (cond (is_merged code info k) Merged Kept)
+
+-- the fate of offset k by the table
+abbrev pub fate_at : List Fate → ℕ → Fate
+fate_at fates k = get_or fates k Kept
+
+abbrev pub goes : Fate → Bool
+goes Kept = false
+goes Dropped = true
+goes Merged = false
+
+abbrev pub merges : Fate → Bool
+merges Kept = false
+merges Dropped = false
+merges Merged = true
 
 -- ---- what an edge loses
 
@@ -54,48 +69,20 @@ fate_of code info k = cond (is_dropped code info k) 1 (cond (is_merged code info
 unfoldable pub lost_by : List ℕ → List ℕ → ℕ → ℕ → Bytecode → ℕ
 lost_by targets info refs e r = cond (eqb r.kind Branch) (minus (bit_and (sides_at info (e / 2)).after refs) (sides_at info (get_or targets e 0)).before) 0
 
--- what is read for it is there
-pub record EdgeRoom (targets info : List ℕ) (e : ℕ) (r : Bytecode) : Type 0 where
-  pub slot : e < length targets
-  pub here : pair_bytes * (e / 2) + pair_bytes ≤ length info
-  pub there : r.kind ≡ Branch → pair_bytes * get_or targets e 0 + pair_bytes ≤ length info
-
--- the sets of both edges of r at offset k are put into a table
-pub record BothLost (targets info : List ℕ) (refs k : ℕ) (r : Bytecode) (old new : List ℕ) : Type 0 where
-  pub long : length new ≡ length old
-  pub one : stored_set new (2 * k) ≡ lost_by targets info refs (2 * k) r
-  pub two : stored_set new (2 * k + 1) ≡ lost_by targets info refs (2 * k + 1) r
-  pub others : (e : ℕ) → e < 2 * k → stored_set new e ≡ stored_set old e
-
--- what edge e loses by the table
+-- what edge e loses by the table, a mask for each edge
 abbrev pub lost_at : List ℕ → ℕ → List ℕ
-lost_at lost e = members max_locals (stored_set lost e)
+lost_at lost e = members max_locals (get_or lost e 0)
 
 -- ---- the tables
 
--- room for n offsets, and for their edges
-pub record PlanRoom (fates lost : List ℕ) (n : ℕ) : Type 0 where
-  pub few : n ≤ max_instructions
-  pub offsets : n ≤ length fates
-  pub edges : 2 * n * set_words ≤ length lost
-
 -- the tables hold the plan, as far as offset k
-pub record Planned (code : List Bytecode) (info : List LiveVarInfo) (refs : ℕ) (fates lost : List ℕ) (k : ℕ) : Type 0 where
-  pub fate : (j : ℕ) → j < k → get_or fates j 0 ≡ fate_of code info j
+pub record Planned (code : List Bytecode) (info : List LiveVarInfo) (refs : ℕ) (fates : List Fate) (lost : List ℕ) (k : ℕ) : Type 0 where
+  pub fate : (j : ℕ) → j < k → fate_at fates j ≡ fate_of code info j
   pub edge : (e : ℕ) → e < 2 * k → lost_refs code info refs e ≡ lost_at lost e
 
--- an accepted sheet of n instructions, and a table of what its edges lose
-pub record EdgeTable (s lost : List ℕ) (n : ℕ) : Type 0 where
-  pub accepted : check_sheet s ≡ Accepted
-  pub count : n ≡ count_of s
-  pub few : n ≤ max_instructions
-  pub edges : 2 * n * set_words ≤ length lost
-
--- and one of what becomes of its offsets: behind a merged Call stands another
-pub record PlanTables (s fates lost : List ℕ) (n : ℕ) : Type 0 where
-  pub edge : EdgeTable s lost n
-  pub offsets : n ≤ length fates
-  pub behind : (k : ℕ) → k < n → get_or fates k 0 ≡ 2 → k + 1 < n
+-- behind a merged Call of n instructions stands another
+pub record MergedInside (fates : List Fate) (n : ℕ) : Type 0 where
+  pub each : (k : ℕ) → k < n → fate_at fates k ≡ Merged → k + 1 < n
 
 -- ---- the numbers by the table
 
@@ -121,8 +108,8 @@ abbrev pub LowNext : Next → Type 0
 LowNext x = NextBelow (max_number + 2) x
 
 -- the kept instructions, and the numbers behind all edges
-pub record Counted (fates lost : List ℕ) (n : ℕ) (first : Next) (c : Counts) : Type 0 where
-  pub kept : c.kept ≡ count n (λ k. not (eqb (get_or fates k 0) 1))
+pub record Counted (fates : List Fate) (lost : List ℕ) (n : ℕ) (first : Next) (c : Counts) : Type 0 where
+  pub kept : c.kept ≡ count n (λ k. not (goes (fate_at fates k)))
   pub next : c.next ≡ numbers_at first lost (2 * n)
 
 -- ---- the new code by the tables
@@ -136,24 +123,24 @@ unfoldable pub aimed_at : List ℕ → ℕ → Next → Bytecode → Bytecode
 aimed_at lost k x r = aimed r (goes_at (lost_at lost (2 * k)) r.one x.label) (goes_at (lost_at lost (2 * k + 1)) r.two (past x (lost_at lost (2 * k))).label)
 
 -- what stands for offset k, if it is kept
-unfoldable pub stands_at : List Bytecode → List ℕ → List ℕ → ℕ → Next → Bytecode
-stands_at code fates lost k x = cond (eqb (at code k).kind Branch) (aimed_at lost k x (at code k)) (cond (eqb (get_or fates k 0) 2) (into (at code k) (at code (suc k)).dsts) (at code k))
+unfoldable pub stands_at : List Bytecode → List Fate → List ℕ → ℕ → Next → Bytecode
+stands_at code fates lost k x = cond (eqb (at code k).kind Branch) (aimed_at lost k x (at code k)) (cond (merges (fate_at fates k)) (into (at code k) (at code (suc k)).dsts) (at code k))
 
-unfoldable pub kept_at : List Bytecode → List ℕ → List ℕ → ℕ → Next → List Bytecode
-kept_at code fates lost k x = cond (eqb (get_or fates k 0) 1) [] (stands_at code fates lost k x ∷ [])
+unfoldable pub kept_at : List Bytecode → List Fate → List ℕ → ℕ → Next → List Bytecode
+kept_at code fates lost k x = cond (goes (fate_at fates k)) [] (stands_at code fates lost k x ∷ [])
 
 -- what edge e adds
 unfoldable pub added_at : List Bytecode → List ℕ → ℕ → Next → List Bytecode
 added_at code lost e x = destroy_block x.attr x.label (target_of code e) (lost_at lost e)
 
 -- all of it
-abbrev pub kept_by : List Bytecode → List ℕ → List ℕ → Next → ℕ → List Bytecode
+abbrev pub kept_by : List Bytecode → List Fate → List ℕ → Next → ℕ → List Bytecode
 kept_by code fates lost first k = kept_at code fates lost k (numbers_at first lost (2 * k))
 
 abbrev pub added_by : List Bytecode → List ℕ → Next → ℕ → List Bytecode
 added_by code lost first e = added_at code lost e (numbers_at first lost e)
 
-abbrev pub code_by : List Bytecode → List ℕ → List ℕ → ℕ → Next → List Bytecode
+abbrev pub code_by : List Bytecode → List Fate → List ℕ → ℕ → Next → List Bytecode
 code_by code fates lost n first = joins n (kept_by code fates lost first) ++ joins (2 * n) (added_by code lost first)
 
 -- ---- what must fit

@@ -8,11 +8,12 @@ use Rattle.stackless_bytecode.specs.declared.Bytecode.{Bytecode}
 use Rattle.stackless_bytecode.specs.Kinds.{Branch, at}
 use Rattle.sheet_writer.specs.SheetLaws.{joins_agree}
 use Rattle.livevar_analysis.specs.Analysis.{LiveVarInfo}
+use Rattle.livevar_transform.specs.declared.plan.Fate.{Fate}
 use Rattle.livevar_transform.specs.declared.plan.Next.{Next}
 use Rattle.livevar_transform.specs.Rewrite.{aimed, into, destroy_block, block_size, target_of, next_free_label, next_free_attr, lost_refs, is_losing, label_for, attr_for, goes_to, stands_for, kept_code, block_on, added_code, transform_code, numbers_fit}
 use Rattle.livevar_transform.specs.PlaceLaws.{edge_target, edge_target_else}
-use Rattle.livevar_transform.specs.Plan.{lost_at, Planned, past, numbers_at, goes_at, aimed_at, stands_at, kept_at, added_at, kept_by, added_by, code_by}
-use Rattle.livevar_transform.specs.PlanLaws.{fate_one, fate_two}
+use Rattle.livevar_transform.specs.Plan.{goes, merges, lost_at, Planned, past, numbers_at, goes_at, aimed_at, stands_at, kept_at, added_at, kept_by, added_by, code_by}
+use Rattle.livevar_transform.specs.PlanLaws.{fate_goes, fate_merges}
 use Rattle.livevar_transform.specs.NumberLaws.{written_is}
 use Rattle.livevar_transform.specs.RewriteWork.{fit_between}
 
@@ -27,7 +28,7 @@ module _ (code : List Bytecode) (info : List LiveVarInfo) (refs : ℕ) where
   unfolding attr_for total
   attr_next e = omega arith
 
-  module _ (fates lost : List ℕ) (n : ℕ) (first : Next) (p : Planned code info refs fates lost n) (size : length code ≡ n) (label : first.label ≡ next_free_label code) (attr : first.attr ≡ next_free_attr code) where
+  module _ (fates : List Fate) (lost : List ℕ) (n : ℕ) (first : Next) (p : Planned code info refs fates lost n) (size : length code ≡ n) (label : first.label ≡ next_free_label code) (attr : first.attr ≡ next_free_attr code) where
     label_is : (e : ℕ) → e ≤ 2 * n → (numbers_at first lost e).label ≡ label_for code info refs e
     label_is zero l = unfold numbers_at label_for count in label ∙ sym (add-zero (next_free_label code))
     label_is (suc e) l =
@@ -59,11 +60,11 @@ module _ (code : List Bytecode) (info : List LiveVarInfo) (refs : ℕ) where
     unfolding stands_at stands_for
     stands_is k l =
         ap₂ (λ (x : Bytecode) (b : Bool). cond (eqb (at code k).kind Branch) x (cond b (into (at code k) (at code (suc k)).dsts) (at code k))) (aimed_is k l)
-        (ap (λ (x : ℕ). eqb x 2) (p.fate k l) ∙ fate_two code info k)
+        (ap merges (p.fate k l) ∙ fate_merges code info k)
 
     kept_is : (k : ℕ) → k < n → kept_by code fates lost first k ≡ kept_code code info refs k
     unfolding kept_at kept_code
-    kept_is k l = ap₂ (λ (b : Bool) (x : Bytecode). cond b [] (x ∷ [])) (ap (λ (x : ℕ). eqb x 1) (p.fate k l) ∙ fate_one code info k) (stands_is k l)
+    kept_is k l = ap₂ (λ (b : Bool) (x : Bytecode). cond b [] (x ∷ [])) (ap goes (p.fate k l) ∙ fate_goes code info k) (stands_is k l)
 
     added_is : (e : ℕ) → e < 2 * n → added_by code lost first e ≡ block_on code info refs e
     unfolding added_at block_on

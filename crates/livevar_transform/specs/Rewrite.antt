@@ -1,10 +1,11 @@
 -- Rewriting, offset by offset: what is dropped, what is merged, the edges that lose references and their blocks, the numbering, refusals 10 and 11,
 -- and the new sheet. Every number is a closed formula of the offset or the edge. Assumes nothing.
+use Rattle.base.specs.declared.Refusal.TheVariants.{CodeTooLong, NumberTooHigh}
 use Rattle.std.specs.Prelude.{ℕ, zero, suc, ◌+◌, ◌*◌, ◌/◌, ◌%◌, max, Bool, true, false, cond, not, ◌||◌, ◌&&◌, List, [], ◌∷◌, ◌++◌, map, eqb, leb, ltb, get_or, length}
 use Rattle.std.specs.Int.Bits.{bit_and}
 use Rattle.base.specs.Sizes.{max_locals, max_instructions, max_bytes, max_number}
 use Rattle.base.specs.Lists.{keep, count, total, joins, gather}
-use Rattle.base.specs.Refusals.{check, whole, ◌then◌, lends, Reply, Done, reply}
+use Rattle.base.specs.Refusals.{◌then◌, lends, Reply, Done, reply, check_whole}
 use Rattle.dataflow_domains.specs.Mask.{holds, minus}
 use Rattle.stackless_bytecode.specs.declared.Bytecode.{Bytecode}
 use Rattle.stackless_bytecode.specs.Kinds.{Assign, Call, Load, Branch, Jump, Label, Destroy, at, label_of}
@@ -191,6 +192,6 @@ unfoldable pub rewrite_reply : List ℕ → ℕ → Reply
 rewrite_reply s lent =
     reply (check_sheet s
     then lends lent max_bytes
-    then check 10 (whole (numbers_fit (code_of s) (sheet_info s) (refs_of s)))
-    then check 11 (whole (leb (length (new_code s)) max_instructions)))
+    then check_whole NumberTooHigh (numbers_fit (code_of s) (sheet_info s) (refs_of s))
+    then check_whole CodeTooLong (leb (length (new_code s)) max_instructions))
     (Done (length (new_sheet s)) (new_sheet s))

@@ -1,11 +1,12 @@
 -- A rewritten sheet is accepted again: the new code meets checks 4 to 8. Assumes nothing.
-use Rattle.std.specs.Prelude.{◌≡◌, Bool, true, not, ◌||◌, ◌&&◌, ℕ, suc, ◌+◌, ◌-◌, ◌*◌, ◌/◌, ◌%◌, ◌^◌, ◌≤◌, ◌<◌, eqb, leb, ltb, get_or, take, drop, refl, cond, List, [], ◌∷◌, ◌++◌, length}
+use Rattle.base.specs.declared.Refusal.TheVariants.{CodeTooLong, NumberTooHigh}
+use Rattle.std.specs.Prelude.{◌≡◌, Bool, true, not, ◌||◌, ◌&&◌, ℕ, suc, ◌+◌, ◌-◌, ◌*◌, ◌/◌, ◌%◌, ◌^◌, ◌≤◌, ◌<◌, eqb, leb, ltb, get_or, take, drop, refl, cond, List, [], ◌∷◌, ◌++◌, length, Ok, Err}
 use Rattle.std.proofs.Common.{sym, subst, ap, ◌∙◌, ⊎_elim, arith, lt-ltb, eqb-true, leb-true}
 use mathlib.Core.List.Memᴰ
 use mathlib.Core.List.{Memᴰ}
 use Rattle.stackless_bytecode.specs.declared.Bytecode.{Bytecode}
 use Rattle.base.specs.Sizes.{block_bytes, max_locals, max_number, max_instructions}
-use Rattle.base.specs.Refusals.{Accepted, Refused, Verdict, Reply, Done, reply}
+use Rattle.base.specs.Refusals.{Accepted, Verdict, Reply, Done, reply}
 use Rattle.base.specs.RefusalLaws.{passed, passed_whole}
 use Rattle.base.specs.Lists.{all, zeros}
 use Rattle.sheet.specs.Layout.{heading_rest, locals_of, refs_of, code_of, padded}
@@ -43,15 +44,15 @@ unfolding record_ok fits
 aimed_fits r x y e = rw e
 
 head_fits : (a l : ℕ) → record_ok (made Label 0 a l []) ≡ true
-unfolding record_ok fits padded zeros
+unfolding record_ok fits padded
 head_fits a l = refl
 
 destroy_fits : (a x : ℕ) → record_ok (made Call Destroy a 0 (x ∷ [])) ≡ true
-unfolding record_ok fits padded zeros
+unfolding record_ok fits padded
 destroy_fits a x = refl
 
 last_fits : (a t : ℕ) → record_ok (made Jump 0 a t []) ≡ true
-unfolding record_ok fits padded zeros
+unfolding record_ok fits padded
 last_fits a t = refl
 
 made_encodes : (kind sub a l : ℕ) (xs : List ℕ) → kind < 256 → sub < 256 → length xs < 256 → a ≤ max_number → l ≤ max_number → Small xs → Encodes (made kind sub a l xs)
@@ -73,15 +74,15 @@ made_encodes kind sub a l xs hk hs hl ha hone small = record {
 }
 
 head_locals : (n a l : ℕ) → locals_ok n (made Label 0 a l []) ≡ true
-unfolding locals_ok dsts_of srcs_of is_flagged all
+unfolding locals_ok dsts_of srcs_of is_flagged
 head_locals n a l = refl
 
 last_locals : (n a l : ℕ) → locals_ok n (made Jump 0 a l []) ≡ true
-unfolding locals_ok dsts_of srcs_of is_flagged all
+unfolding locals_ok dsts_of srcs_of is_flagged
 last_locals n a l = refl
 
 destroy_locals : (n a x : ℕ) → x < n → locals_ok n (made Call Destroy a 0 (x ∷ [])) ≡ true
-unfolding locals_ok dsts_of srcs_of is_flagged all padded
+unfolding locals_ok dsts_of srcs_of is_flagged padded
 destroy_locals n a x h = ap (λ (b : Bool). b && true && true) (lt-ltb x n h)
 
 -- another list of destinations that are below the count too
@@ -211,9 +212,8 @@ module _ (l refs : ℕ) (code : List Bytecode) (info : List LiveVarInfo) (body :
 
 -- no refusal where something is done
 done_accepted : (v : Verdict) {d : Reply} {n : ℕ} {t : List ℕ} → reply v d ≡ Done n t → (v ≡ Accepted) × (d ≡ Done n t)
-unfolding reply
-done_accepted Accepted e = (refl, e)
-done_accepted (Refused a b) e = absurd (let z : ◌≡◌ {A = ℕ} 0 1 = cc in omega arith)
+done_accepted (Ok tt) e = (refl, e)
+done_accepted (Err f) e = absurd (let z : ◌≡◌ {A = ℕ} 0 1 = cc in omega arith)
 
 -- a sheet that is rewritten is accepted, there is room for its new code, and it is given that code under the old heading
 record RewritingOf (s t : List ℕ) : Type 0 where
@@ -231,6 +231,13 @@ numbers_low code info refs q h =
     (λ z. let r = and-true (leb l (suc max_number)) (leb a (suc max_number)) z in (leb-true l _ r.0, leb-true a _ r.1))
     (or-true (eqb (length (added_code code info refs)) 0) (leb l (suc max_number) && leb a (suc max_number)) q)
 
+abbrev written_of : Reply → List ℕ
+written_of (Ok d) = d.written
+written_of (Err e) = []
+
+same_written : {a b : ℕ} {xs ys : List ℕ} → ◌≡◌ {A = Reply} (Done a xs) (Done b ys) → xs ≡ ys
+same_written e = ap written_of e
+
 rewriting_of : (s t : List ℕ) (lent n : ℕ) → rewrite_reply s lent ≡ Done n t → RewritingOf s t
 unfolding rewrite_reply
 rewriting_of s t lent n e =
@@ -238,11 +245,11 @@ rewriting_of s t lent n e =
     let c8 = passed (check_sheet s) _ d.0 in
     let c9 = passed _ _ c8.next in
     let c10 = passed _ _ c9.next in
-    let low = numbers_low (code_of s) (sheet_info s) (refs_of s) (passed_whole 10 _ c10.first) in
+    let low = numbers_low (code_of s) (sheet_info s) (refs_of s) (passed_whole NumberTooHigh _ c10.first) in
     record {
       accepted = c8.first;
-      fit = record { labels = λ h. (low h).0; attrs = λ h. (low h).1; few = leb-true _ max_instructions (passed_whole 11 _ c10.next) };
-      is = cc;
+      fit = record { labels = λ h. (low h).0; attrs = λ h. (low h).1; few = leb-true _ max_instructions (passed_whole CodeTooLong _ c10.next) };
+      is = same_written d.1;
     }
 
 pub rewritten_accepted : (s t : List ℕ) (lent n : ℕ) → Bytes s → rewrite_reply s lent ≡ Done n t → AcceptedRewriting s t

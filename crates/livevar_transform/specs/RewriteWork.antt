@@ -1,8 +1,9 @@
 -- What the rewriting worker is asked and answers. Assumes nothing.
-use Rattle.std.specs.Prelude.{◌≡◌, Bool, ◌||◌, ◌&&◌, List, ℕ, suc, eqb, leb, length}
+use Rattle.base.specs.declared.Refusal.TheVariants.{CodeTooLong, NumberTooHigh}
+use Rattle.std.specs.Prelude.{◌≡◌, Bool, ◌||◌, ◌&&◌, List, ℕ, suc, eqb, leb, length, Result}
 use Rattle.base.specs.Sizes.{max_number, max_instructions}
-use Rattle.base.specs.Refusals.{Verdict, check, whole, ◌then◌, Reply, Done, reply, result_of, answer_of, output_after}
-use Rattle.base.specs.declared.Answer.{Answer}
+use Rattle.base.specs.Refusals.{Verdict, ◌then◌, Reply, Done, reply, answer_of, output_after, check_whole}
+use Rattle.base.specs.declared.Refusal.{Refusal}
 use Rattle.sheet.specs.Layout.{refs_of, code_of}
 use Rattle.livevar_analysis.specs.Analysis.{infos_of}
 use Rattle.livevar_transform.specs.declared.plan.Next.{Next}
@@ -16,15 +17,15 @@ pub record Asked (s targets info : List ℕ) (n : ℕ) : Type 0 where
 
 -- checks 10 and 11 of the new code: whether its numbers fit, and whether it is short enough
 abbrev pub check_new : Bool → Bool → Verdict
-check_new fits short = check 10 (whole fits) then check 11 (whole short)
+check_new fits short = check_whole NumberTooHigh fits then check_whole CodeTooLong short
 
 -- what is replied of an accepted sheet where enough is lent
 abbrev pub accepted_reply : List ℕ → Reply
 accepted_reply s = reply (check_new (numbers_fit (code_of s) (sheet_info s) (refs_of s)) (leb (length (new_code s)) max_instructions)) (Done (length (new_sheet s)) (new_sheet s))
 
 -- the answer, and the lent output after it
-pub record RewriteAnswers (s before : List ℕ) (r : Answer) (after : List ℕ) : Type 0 where
-  pub result : answer_of r ≡ result_of (accepted_reply s)
+pub record RewriteAnswers (s before : List ℕ) (r : Result ℕ Refusal) (after : List ℕ) : Type 0 where
+  pub result : r ≡ answer_of (accepted_reply s)
   pub written : after ≡ output_after (accepted_reply s) before
 
 -- no number is used up between these, or those behind are at most one above the highest

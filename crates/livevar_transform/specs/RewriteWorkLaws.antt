@@ -1,20 +1,20 @@
 -- When the rewriting worker gives refusals 10 and 11, and what it answers. Assumes nothing.
-use Rattle.std.specs.Prelude.{◌≡◌, refl, Bool, List, ◌++◌, ℕ, ◌+◌, ◌-◌, ◌*◌, ◌≤◌, leb, length, drop}
+use Rattle.std.specs.Prelude.{◌≡◌, refl, Bool, List, ◌++◌, ℕ, ◌+◌, ◌-◌, ◌*◌, ◌≤◌, leb, length, drop, Ok, Err}
 use Rattle.std.proofs.Common.{sym, ap, ap₂, ◌∙◌}
 use Rattle.base.specs.Sizes.{refs_at, set_bytes, max_instructions}
 use Rattle.base.specs.Bytes.{number, part}
-use Rattle.base.specs.Refusals.{number_of, place_of, Verdict, Accepted, Refused, Done, reply}
+use Rattle.base.specs.Refusals.{Verdict, Accepted, Done, reply}
 use Rattle.base.specs.ReplyLaws.{reply_refused, reply_done, refuses, done_result, done_output}
 use Rattle.base.specs.declared.Refusal.{Refusal}
-use Rattle.base.specs.declared.Answer.TheVariants as answer
 use Rattle.sheet.specs.Layout.{heading_rest, refs_of, code_of, sheet_of}
 use Rattle.sheet_writer.specs.Written.{SheetWritten}
 use Rattle.livevar_analysis.specs.Analysis.{infos_of}
+use Rattle.livevar_transform.specs.declared.plan.Fate.{Fate}
 use Rattle.livevar_transform.specs.declared.plan.Next.{Next}
 use Rattle.livevar_transform.specs.declared.plan.Counts.{Counts}
 use Rattle.livevar_transform.specs.Rewrite.{next_free_label, next_free_attr, transform_code, sheet_info, new_code, new_sheet, numbers_fit}
-use Rattle.livevar_transform.specs.Plan.{Ready, PlanRoom, Planned, PlanTables, Counted, code_by}
-use Rattle.livevar_transform.specs.PlanLaws.{size, merged_next, fate_merged}
+use Rattle.livevar_transform.specs.Plan.{Planned, Counted, code_by}
+use Rattle.livevar_transform.specs.PlanLaws.{size}
 use Rattle.livevar_transform.specs.NumberLaws.{length_is, written_is}
 use Rattle.livevar_transform.specs.PlannedLaws.{code_is, fit_is}
 use Rattle.livevar_transform.specs.RewriteWork.{Asked, check_new, accepted_reply, RewriteAnswers, fit_between}
@@ -25,14 +25,7 @@ pub refs_is : (s : List ℕ) (m : ℕ) → m ≡ number (part s refs_at set_byte
 unfolding refs_of
 refs_is s m e = e
 
-pub tables : {s targets info : List ℕ} {n : ℕ} (h : Ready s targets info n) (refs : ℕ) (fates lost : List ℕ) → PlanRoom fates lost n → Planned (code_of s) (infos_of n info) refs fates lost n → PlanTables s fates lost n
-tables h refs fates lost room p = record {
-  edge = record { accepted = h.known.accepted; count = h.known.count; few = room.few; edges = room.edges };
-  offsets = room.offsets;
-  behind = λ k l e. merged_next h.known k (fate_merged _ _ k (sym (p.fate k l) ∙ e));
-}
-
-module _ {s targets info : List ℕ} {n refs : ℕ} {fates lost : List ℕ} {first : Next} {c : Counts} (a : Asked s targets info n) (mask : refs ≡ refs_of s) (p : Planned (code_of s) (infos_of n info) refs fates lost n)
+module _ {s targets info : List ℕ} {n refs : ℕ} {fates : List Fate} {lost : List ℕ} {first : Next} {c : Counts} (a : Asked s targets info n) (mask : refs ≡ refs_of s) (p : Planned (code_of s) (infos_of n info) refs fates lost n)
     (label : first.label ≡ next_free_label (code_of s)) (attr : first.attr ≡ next_free_attr (code_of s)) (k : Counted fates lost n first c) where
   new_is : code_by (code_of s) fates lost n first ≡ new_code s
   new_is = code_is (code_of s) (infos_of n info) refs fates lost n first p (size a.ready.known) label attr ∙ ap₂ (transform_code (code_of s)) a.sets mask
@@ -59,12 +52,12 @@ module _ {s targets info : List ℕ} {n refs : ℕ} {fates lost : List ℕ} {fir
     reply_is : accepted_reply s ≡ reply verdict (Done (length (new_sheet s)) (new_sheet s))
     reply_is = rw (ten, ← is, long)
 
-    pub answers_refused : (before : List ℕ) (f : Refusal) → Refused (number_of f) (place_of f) ≡ verdict → RewriteAnswers s before (answer.Refused f) before
+    pub answers_refused : (before : List ℕ) (f : Refusal) → Err f ≡ verdict → RewriteAnswers s before (Err f) before
     answers_refused before f e =
         let r = refuses before (reply_is ∙ reply_refused _ (sym e)) in
         record { result = r.result; written = r.same }
 
-    pub answers_sheet : (l : ℕ) (before after : List ℕ) → verdict ≡ Accepted → SheetWritten (sheet_of (heading_rest s) (code_by (code_of s) fates lost n first)) before l after → RewriteAnswers s before (answer.Value l) after
+    pub answers_sheet : (l : ℕ) (before after : List ℕ) → verdict ≡ Accepted → SheetWritten (sheet_of (heading_rest s) (code_by (code_of s) fates lost n first)) before l after → RewriteAnswers s before (Ok l) after
     answers_sheet l before after e w =
         let r : accepted_reply s ≡ Done (length (new_sheet s)) (new_sheet s) = reply_is ∙ reply_done _ e in
         let same = ap (sheet_of (heading_rest s)) new_is in

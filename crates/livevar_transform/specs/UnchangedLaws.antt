@@ -1,4 +1,5 @@
 -- A sheet of which nothing is dropped or merged, and whose edges lose nothing, is its own rewriting: the proof. Assumes nothing.
+use Rattle.base.specs.declared.Refusal.TheVariants.{CodeTooLong, NumberTooHigh}
 use Rattle.std.specs.Prelude.{◌≡◌, Bool, true, ◌||◌, ◌&&◌, ℕ, zero, suc, ◌*◌, ◌≤◌, ◌<◌, take, refl, cond, List, [], ◌∷◌, ◌++◌, eqb, leb, length}
 use Rattle.std.proofs.Common.{ap, ap₂, sym, ◌∙◌, true≢false, arith, le-leb, ltb-false, take-suc, append-nil}
 use Rattle.std.proofs.Math.Seq.{take-length}
@@ -87,5 +88,5 @@ unchanged s bytes e h = record { is = own }
 
     own : (lent : ℕ) → max_bytes ≤ lent → rewrite_reply s lent ≡ Done (length s) s
     own lent l =
-        unfold rewrite_reply in (call_goes _ _ e ∙ call_goes _ _ (lends_enough l) ∙ call_goes _ _ (sym (accepted_whole 10 numbers)) ∙ reply_done _ (sym (accepted_whole 11 few))
+        unfold rewrite_reply in (call_goes _ _ e ∙ call_goes _ _ (lends_enough l) ∙ call_goes _ _ (sym (accepted_whole NumberTooHigh numbers)) ∙ reply_done _ (sym (accepted_whole CodeTooLong few))
         ∙ ap (λ (t : List ℕ). Done (length t) t) (ap (sheet_of (heading_rest s)) same ∙ whole_again s bytes e))

@@ -1,58 +1,27 @@
 // Instructions that rewriting makes or changes. Assumes nothing.
 ghost use Rattle.std.specs.Prelude.{◌≡◌, [], ◌∷◌};
-ghost use Rattle.stackless_bytecode.specs.Kinds.{Call, Destroy};
+ghost use Rattle.stackless_bytecode.specs.Kinds.{Call, Destroy, kind_number};
 ghost use Rattle.livevar_transform.specs.Rewrite.{made, aimed, into};
 
 use base::LIST_PLACES;
-use stackless_bytecode::Bytecode;
-
-// The operation Destroy, by its place in the enum `Operation`.
-const DESTROY: u8 = 13;
+use stackless_bytecode::{Bytecode, DESTROY, Kind};
 
 // r with other labels.
 pub fn with_labels(r: Bytecode, one: u16, two: u16) -> Bytecode
     ensures { result ≡ aimed r one two }
 {
-    let dsts = r.dsts;
-    let srcs = r.srcs;
-    Bytecode {
-        kind: r.kind,
-        sub: r.sub,
-        attr: r.attr,
-        one,
-        two,
-        ndst: r.ndst,
-        nsrc: r.nsrc,
-        flag: r.flag,
-        abort: r.abort,
-        dsts,
-        srcs,
-        payload: r.payload,
-    }
+    Bytecode { one, two, ..r }
 }
 
 // r with another list of destinations.
 pub fn with_dsts(r: Bytecode, dsts: [u8; LIST_PLACES]) -> Bytecode
     ensures { result ≡ into r dsts }
 {
-    let srcs = r.srcs;
-    Bytecode {
-        kind: r.kind,
-        sub: r.sub,
-        attr: r.attr,
-        one: r.one,
-        two: r.two,
-        ndst: r.ndst,
-        nsrc: r.nsrc,
-        flag: r.flag,
-        abort: r.abort,
-        dsts,
-        srcs,
-        payload: r.payload,
-    }
+    Bytecode { dsts, ..r }
 }
 
 // A new Label or Jump.
+#[tactic(auto, unfolding(sheet::specs::Layout::padded))]
 pub fn mark(kind: u8, attr: u16, one: u16) -> Bytecode
     ensures { result ≡ made kind 0 attr one [] }
 {
@@ -66,30 +35,23 @@ pub fn mark(kind: u8, attr: u16, one: u16) -> Bytecode
         nsrc: 0,
         flag: 0,
         abort: 0,
-        dsts: [0u8; LIST_PLACES],
-        srcs: [0u8; LIST_PLACES],
+        dsts: [0; LIST_PLACES],
+        srcs: [0; LIST_PLACES],
         payload: 0,
     }
 }
 
 // A new Destroy.
+#[tactic(auto, unfolding(sheet::specs::Layout::padded))]
 pub fn destroy(attr: u16, local: u8) -> Bytecode
     ensures { result ≡ made Call Destroy attr 0 (local ∷ []) }
 {
-    let mut srcs = [0u8; LIST_PLACES];
+    let mut srcs = [0; LIST_PLACES];
     srcs[0] = local;
     Bytecode {
-        kind: 1,
         sub: DESTROY,
-        attr,
-        one: 0,
-        two: 0,
-        ndst: 0,
         nsrc: 1,
-        flag: 0,
-        abort: 0,
-        dsts: [0u8; LIST_PLACES],
         srcs,
-        payload: 0,
+        ..mark(Kind::Call as u8, attr, 0)
     }
 }

@@ -1,21 +1,20 @@
 // The page of any bytes, and the call that writes it. Assumes nothing.
-ghost use Rattle.std.specs.Prelude.{◌≡◌, length};
-ghost use Rattle.base.specs.Refusals.{result_of, answer_of, output_after};
-ghost use Rattle.stackless_control_flow_graph.specs.Arrays.{CheckedSheet};
+ghost use Rattle.std.specs.Prelude.{◌≡◌, ◌≤◌, length};
+ghost use Rattle.base.specs.Refusals.{answer_of, output_after};
 ghost use Rattle.listing.specs.Output.{Wrote};
+ghost use Rattle.listing.specs.Writer.{◌with_text◌};
 ghost use Rattle.pages.specs.Page.{sections, page, page_reply};
 
 use crate::sections::{
     put_code_section, put_flow_section, put_live_section, put_rewritten_section,
 };
-use base::{
-    Answer, Checked, LIST_PLACES, LIVE_BYTES, MAX_INSTRUCTIONS, MAX_LOCALS, Refusal, SET_BYTES,
-    SLOTS,
-};
+use base::{LIST_PLACES, LIVE_BYTES, MAX_INSTRUCTIONS, MAX_LOCALS, Refusal, SET_BYTES, SLOTS};
 use listing::text::put_refused;
+use listing::writer::Writer;
 use live::analysis::analyze;
-use sheet::reader::u16_at;
-use sheet_checks::check::check_into;
+use livevar_transform::plan::LiveSheet;
+use sheet::accepted::AcceptedSheet;
+use sheet_checks::check::read;
 
 // The digits of an offset, a count, a label or an attribute id; of a payload; and of a local: two to 100 locals, three to 356.
 const NUMBER: usize = 5;
@@ -51,40 +50,46 @@ pub const SECTION_BYTES: usize = 11 + LIVE_TEXT_BYTES;
 
 pub const PAGE_BYTES: usize = 28 + 2 * CODE_BYTES + FLOW_BYTES + LIVE_TEXT_BYTES;
 
-// The sections of a checked sheet of n instructions, the offsets of whose labels are `targets`.
-fn put_sections(s: &[u8], n: usize, targets: &[u16], out: &mut [u8]) -> usize
-    requires { CheckedSheet s.now n targets.now }
-    ensures { Wrote out.old 0 (sections s.now) out.new result }
+// The sections of a sheet.
+fn put_sections(sheet: AcceptedSheet<'_>, out: &mut Writer)
+    ensures { out.new ≡ out.old with_text sections sheet.entry.bytes.now }
 {
     let mut sets = [0u8; LIVE_BYTES];
-    let taken = analyze(s, n, targets, &mut sets);
-    let a = put_code_section(s, out, 0);
-    let b = put_flow_section(s, n, targets, out, a);
-    let e = put_live_section(&sets, n, taken, out, b);
-    put_rewritten_section(s, n, targets, &sets, out, e)
+    let taken = analyze(sheet, &mut sets);
+    put_code_section(sheet.bytes, out);
+    put_flow_section(sheet, out);
+    put_live_section(&sets, sheet.count, taken, out);
+    put_rewritten_section(LiveSheet { sheet, info: &sets }, out);
+}
+
+// The page of any bytes.
+fn put_bytes_page(s: &[u8], out: &mut Writer)
+    ensures { out.new ≡ out.old with_text page s.now }
+{
+    let mut targets = [0u16; SLOTS];
+    match read(s, &mut targets) {
+        Ok(sheet) => put_sections(sheet, out),
+        Err(refusal) => put_refused(refusal, out),
+    }
 }
 
 // The page of any bytes, as far as `out` goes; the result is the place behind it.
 pub fn put_page(s: &[u8], out: &mut [u8]) -> usize
-    ensures { Wrote out.old 0 (page s.now) out.new result }
+    ensures written { Wrote out.old 0 (page s.now) out.new result }
+    ensures inside { result ≤ length out.new }
 {
-    let mut targets = [0u16; SLOTS];
-    match check_into(s, &mut targets) {
-        Checked::Refused(f) => put_refused(f.number(), f.place(), out, 0),
-        Checked::Accepted => {
-            let n = u16_at(s, 4) as usize;
-            put_sections(s, n, &targets, out)
-        }
-    }
+    let mut writer = Writer::new(out);
+    put_bytes_page(s, &mut writer);
+    writer.next
 }
 
 // The page of any bytes at the front of `out`, and its length: of a refused sheet, the line that says so.
-pub fn page(s: &[u8], out: &mut [u8]) -> Answer
-    ensures result { answer_of result ≡ result_of (page_reply s.now (length out.old)) }
+pub fn page(s: &[u8], out: &mut [u8]) -> Result<u32, Refusal>
+    ensures result { result ≡ answer_of (page_reply s.now (length out.old)) }
     ensures written { out.new ≡ output_after (page_reply s.now (length out.old)) out.old }
 {
     if out.len() < PAGE_BYTES {
-        return Answer::Refused(Refusal::OutputShort);
+        return Err(Refusal::OutputShort);
     }
-    Answer::Value(put_page(s, out) as u32)
+    Ok(put_page(s, out) as u32)
 }

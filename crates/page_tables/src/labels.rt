@@ -1,103 +1,74 @@
 // The Labels that nobody names as text: each that is named gets a mark, and the others make a line. Assumes nothing.
-ghost use Rattle.std.specs.Prelude.{◌≡◌, ℕ, ◌≤◌, ◌<◌, eqb, length, get_or};
-ghost use Rattle.stackless_bytecode.specs.Slots.{no_label};
-ghost use Rattle.sheet.specs.Layout.{code_of};
-ghost use Rattle.sheet.specs.Shaped.{Shaped};
-ghost use Rattle.stackless_control_flow_graph.specs.Arrays.{CheckedSheet};
-ghost use Rattle.listing.specs.Output.{Wrote};
+ghost use Rattle.std.specs.Prelude.{◌≡◌, ℕ, false, ◌≤◌, ◌++◌, codes, eqb, length, get_or};
+ghost use Rattle.sheet.specs.Code.{code_in};
+ghost use Rattle.listing.specs.Writer.{◌with_text◌};
 ghost use Rattle.pages.specs.Page.{unnamed_labels, unnamed_line};
-ghost use Rattle.pages.specs.Marks.{mark_name, NamedMarks, is_unmarked, unmarked_text};
+ghost use Rattle.pages.specs.Marks.{NamedMarks, is_unmarked};
 
 use base::MAX_INSTRUCTIONS;
-use base::width::{u16_to_u32, u16_to_usize};
-use listing::output::{put_bytes, put_number};
-use sheet::reader::instruction_at;
-use stackless_bytecode::{Bytecode, NO_LABEL};
-
-// A mark at offset o, where a slot's label l is one.
-fn mark_name(marks: &mut [u8], l: u32, o: usize)
-    requires { (l ≡ no_label → ⊥) → o < length marks.old }
-    ensures { marks.new ≡ mark_name marks.old l o }
-{
-    if l == NO_LABEL {
-        return;
-    }
-    marks[o] = 1;
-}
+use listing::writer::Writer;
+use sheet::accepted::AcceptedSheet;
+use stackless_bytecode::{Bytecode, Kind};
 
 // A mark at each Label that is named, slot by slot.
-fn mark_named(s: &[u8], n: usize, targets: &[u16], marks: &mut [u8])
-    requires { CheckedSheet s.now n targets.now × (n ≤ length marks.old) × ((o : ℕ) → get_or marks.old o 0 ≡ 0) }
-    ensures { NamedMarks (code_of s.now) marks.new }
+#[tactic(auto, using(pages::specs::UnnamedLaws::marks_none))]
+fn mark_named(sheet: AcceptedSheet<'_>, marks: &mut [bool])
+    requires { (sheet.count ≤ length marks.old) × ((o : ℕ) → get_or marks.old o false ≡ false) }
+    ensures { NamedMarks (code_in sheet.entry) marks.new }
 {
-    let mut e = 0;
-    while e < 2 * n {
-        let r = instruction_at(s, e / 2);
-        let l = r.name(e % 2);
-        mark_name(marks, l, u16_to_usize(targets[e]));
-        e += 1;
+    for e in 0..2 * sheet.count {
+        if sheet.instruction(e / 2).name(e % 2).is_some() {
+            marks[usize::from(sheet.targets[e])] = true;
+        }
     }
 }
 
 // Whether it is a Label that has no mark.
-fn is_unmarked(r: Bytecode, mark: u8) -> bool
+#[tactic(auto, unfolding(pages::specs::Marks::is_unmarked))]
+fn is_unmarked(r: Bytecode, mark: bool) -> bool
     ensures { result ≡ is_unmarked r mark }
 {
-    r.is_label() & (mark != 1)
+    r.is(Kind::Label) && !mark
 }
 
 // Whether every Label is named.
-fn all_named(s: &[u8], n: usize, marks: &[u8]) -> bool
-    requires { Shaped s.now n × NamedMarks (code_of s.now) marks.now × (n ≤ length marks.now) }
-    ensures { result ≡ eqb (length (unnamed_labels (code_of s.now))) 0 }
+#[tactic(auto, using(pages::specs::UnnamedLaws::unnamed_none))]
+fn all_named(sheet: AcceptedSheet<'_>, marks: &[bool]) -> bool
+    requires { NamedMarks (code_in sheet) marks.now × (sheet.count ≤ length marks.now) }
+    ensures { result ≡ eqb (length (unnamed_labels (code_in sheet.entry))) 0 }
 {
-    let mut k = 0;
-    while k < n {
-        let r = instruction_at(s, k);
-        if is_unmarked(r, marks[k]) {
+    for k in 0..sheet.count {
+        if is_unmarked(sheet.instruction(k), marks[k]) {
             return false;
         }
-        k += 1;
     }
     true
 }
 
-// The instruction, where it is a Label that has no mark.
-fn put_label(r: Bytecode, mark: u8, out: &mut [u8], at: usize) -> usize
-    ensures { Wrote out.old at (unmarked_text r mark) out.new result }
+// The line of the Labels that nobody names, by offset.
+#[tactic(auto, using(listing::specs::WriterLaws::texts, pages::specs::UnnamedLaws::unnamed_none))]
+fn put_labels(sheet: AcceptedSheet<'_>, marks: &[bool], out: &mut Writer)
+    requires { NamedMarks (code_in sheet) marks.now × (sheet.count ≤ length marks.now) }
+    ensures { out.new ≡ out.old with_text (codes "never named" ++ unnamed_labels (code_in sheet.entry) ++ codes "\n") }
 {
-    if is_unmarked(r, mark) {
-        return put_number(b" L", u16_to_u32(r.one), out, at);
+    out.put(b"never named");
+    for k in 0..sheet.count {
+        let r = sheet.instruction(k);
+        if is_unmarked(r, marks[k]) {
+            out.put_number(b" L", u32::from(r.one));
+        }
     }
-    at
-}
-
-// The Labels that nobody names, by offset.
-fn put_labels(s: &[u8], n: usize, marks: &[u8], out: &mut [u8], at: usize) -> usize
-    requires { Shaped s.now n × NamedMarks (code_of s.now) marks.now × (n ≤ length marks.now) }
-    ensures { Wrote out.old at (unnamed_labels (code_of s.now)) out.new result }
-{
-    let mut e = at;
-    let mut k = 0;
-    while k < n {
-        let r = instruction_at(s, k);
-        e = put_label(r, marks[k], out, e);
-        k += 1;
-    }
-    e
+    out.put(b"\n");
 }
 
 // Their line, and nothing where there are none.
-pub fn put_unnamed(s: &[u8], n: usize, targets: &[u16], out: &mut [u8], at: usize) -> usize
-    requires { CheckedSheet s.now n targets.now }
-    ensures { Wrote out.old at (unnamed_line (code_of s.now)) out.new result }
+#[tactic(auto, using(listing::specs::WriterLaws::texts), unfolding(pages::specs::Page::unnamed_line))]
+pub fn put_unnamed(sheet: AcceptedSheet<'_>, out: &mut Writer)
+    ensures { out.new ≡ out.old with_text unnamed_line (code_in sheet.entry) }
 {
-    let mut marks = [0u8; MAX_INSTRUCTIONS];
-    mark_named(s, n, targets, &mut marks);
-    if all_named(s, n, &marks) {
-        return at;
+    let mut marks = [false; MAX_INSTRUCTIONS];
+    mark_named(sheet, &mut marks);
+    if !all_named(sheet, &marks) {
+        put_labels(sheet, &marks, out);
     }
-    let a = put_bytes(b"never named", out, at);
-    let e = put_labels(s, n, &marks, out, a);
-    put_bytes(b"\n", out, e)
 }

@@ -4,7 +4,6 @@ pub mod Code
 pub mod Size
 pub mod Page
 -- What the inner contracts say.
-pub mod Parts
 pub mod Marks
 -- Laws.
 pub mod WordLaws

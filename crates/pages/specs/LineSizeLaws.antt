@@ -1,6 +1,9 @@
 -- No line of a sheet's code is longer than is counted. Assumes nothing.
-use Rattle.std.specs.Prelude.{◌≡◌, refl, Bool, true, false, cond, ◌||◌, ◌&&◌, ℕ, zero, suc, ◌+◌, ◌-◌, ◌*◌, ◌/◌, ◌≤◌, ◌<◌, ltb, take, List, [], ◌∷◌, ◌++◌, eqb, length}
-use Rattle.std.proofs.Common.{arith, ltb-true, length-append, length-take}
+use Rattle.std.specs.Prelude.{◌≡◌, refl, Bool, true, false, cond, ◌||◌, ℕ, zero, suc, ◌+◌, ◌*◌, ◌≤◌, ◌<◌, take, List, [], ◌∷◌, ◌++◌, eqb, length, codes, decimal}
+use Rattle.std.proofs.Common.{arith, length-append, length-take}
+use Rattle.std.specs.List.{list_all}
+use Rattle.std.proofs.Math.Dec.{leb}
+use Rattle.std.proofs.lemmas.Bool.{leb-true}
 use mathlib.Core.List.Memᴰ
 use mathlib.Core.List.{Memᴰ}
 use Rattle.base.specs.Sizes.{list_places, max_locals, max_number, max_instructions}
@@ -17,19 +20,19 @@ use Rattle.base.specs.Bytes.{Bytes}
 use Rattle.sheet.specs.ValidLaws.{accepted_valid}
 use Rattle.sheet_writer.specs.EncodeLaws.{Encodes}
 use Rattle.sheet_writer.specs.BodyLaws.{accepted_body}
-use Rattle.listing.specs.Words.{ascii, decimal, said}
-use Rattle.listing.specs.NumberLaws.{decimal_short}
+use Rattle.listing.specs.Words.{said}
+use Rattle.std.proofs.lemmas.Fmt.{length-decimal-le}
 use Rattle.pages.specs.Words.{word, marked, listed}
-use Rattle.pages.specs.Code.{verbs, assigns, operations, constants, props, names, destinations, branch_labels, labels, sources, aborting, does, takes, code_line, locals_in, counts, heading_text, code_text}
+use Rattle.pages.specs.Code.{verbs, assigns, operations, constants, props, names, destinations, branch_labels, labels, sources, aborting, does, takes, code_line, locals_below, locals_in, counts, heading_text, code_lines, code_text}
 use Rattle.pages.specs.Size.{number_digits, payload_digits, local_digits, locals_bytes, heading_bytes, code_line_bytes, code_bytes}
 
 -- ---- numbers and words
 
 pub number_most : (x : ℕ) → x ≤ max_number → length (decimal x) ≤ number_digits
-number_most x h = decimal_short 4 x (omega arith)
+number_most x h = length-decimal-le 5 x (omega arith) (omega arith) (omega arith)
 
 local_most : (x : ℕ) → x < max_locals → length (decimal x) ≤ local_digits
-local_most x h = decimal_short (1 + (max_locals + 155) / 256) x (omega arith)
+local_most x h = length-decimal-le local_digits x (omega arith) (omega arith) (omega arith)
 
 pub said_most : (w : List ℕ) (x d : ℕ) → length (decimal x) ≤ d → length (said w x) ≤ length w + d
 said_most w x d h = omega (arith, length-append w (decimal x))
@@ -44,56 +47,30 @@ marked_most w x d h = cond_most (eqb x 0) [] (said w x) (length w + d) (omega ar
 
 -- locals, with two bytes beside each
 listed_most : (a b xs : List ℕ) → length a + length b ≤ 2 → ((x : ℕ) → Memᴰ x xs → x < max_locals) → length (listed a b xs) ≤ length xs * (2 + local_digits)
-unfolding listed gather
+unfolding listed
 listed_most a b [] h low = omega arith
 listed_most a b (x ∷ xs) h low =
     omega (arith, length-append (said a x ++ b) (listed a b xs), length-append (said a x) b, said_most a x local_digits (local_most x (low x (Memᴰ.head refl))), listed_most a b xs h (λ y i. low y (Memᴰ.tail i)))
 
--- every word has at most m bytes, and the first at most l
-unfoldable fits_in : ℕ → ℕ → List ℕ → Bool
-fits_in m l [] = true
-fits_in m l (b ∷ bs) = cond (eqb b 124) (fits_in m m bs) (ltb 0 l && fits_in m (l - 1) bs)
+-- where every word has at most m bytes
+abbrev short : ℕ → List (List ℕ) → Bool
+short m words = list_all (λ w. leb (length w) m) words
 
-word_first : (m l : ℕ) (t : List ℕ) → fits_in m l t ≡ true → length (word 0 t) ≤ l
-unfolding word fits_in
-word_first m l [] e = omega arith
-word_first m l (b ∷ bs) e =
-    by_test (λ t. cond t (fits_in m m bs) (ltb 0 l && fits_in m (l - 1) bs) ≡ true → length (cond t [] (b ∷ word 0 bs)) ≤ l) (eqb b 124)
-    (λ _ f. omega arith) (λ _ f. let both = and-true (ltb 0 l) (fits_in m (l - 1) bs) f in omega (arith, ltb-true 0 l both.0, word_first m (l - 1) bs both.1)) e
-
-word_later : (m l i : ℕ) (t : List ℕ) → fits_in m l t ≡ true → length (word (suc i) t) ≤ m
-unfolding word fits_in
-word_later m l zero [] e = omega arith
-word_later m l (suc i) [] e = omega arith
-word_later m l zero (b ∷ bs) e =
-    by_test (λ t. cond t (fits_in m m bs) (ltb 0 l && fits_in m (l - 1) bs) ≡ true → length (cond t (word zero bs) (word (suc zero) bs)) ≤ m) (eqb b 124)
-    (λ _ f. word_first m m bs f) (λ _ f. word_later m (l - 1) zero bs (and-true (ltb 0 l) (fits_in m (l - 1) bs) f).1) e
-word_later m l (suc i) (b ∷ bs) e =
-    by_test (λ t. cond t (fits_in m m bs) (ltb 0 l && fits_in m (l - 1) bs) ≡ true → length (cond t (word (suc i) bs) (word (suc (suc i)) bs)) ≤ m) (eqb b 124)
-    (λ _ f. word_later m m i bs f) (λ _ f. word_later m (l - 1) (suc i) bs (and-true (ltb 0 l) (fits_in m (l - 1) bs) f).1) e
-
-word_most : (m i : ℕ) (t : List ℕ) → fits_in m m t ≡ true → length (word i t) ≤ m
-word_most m zero t e = word_first m m t e
-word_most m (suc i) t e = word_later m m i t e
+word_most : (m i : ℕ) (words : List (List ℕ)) → short m words ≡ true → length (word i words) ≤ m
+word_most m i [] e = omega arith
+word_most m zero (w ∷ ws) e = leb-true (length w) m (and-true (leb (length w) m) (short m ws) e).0
+word_most m (suc i) (w ∷ ws) e = word_most m i ws (and-true (leb (length w) m) (short m ws) e).1
 
 verb_most : (k : ℕ) → length (word k verbs) ≤ 11
-unfolding fits_in
 verb_most k = word_most 11 k verbs refl
-
-shorts : (fits_in 17 17 assigns ≡ true) × (fits_in 17 17 operations ≡ true) × (fits_in 17 17 constants ≡ true) × (fits_in 17 17 props ≡ true) × (fits_in 17 17 [] ≡ true)
-unfolding fits_in
-shorts = (refl, refl, refl, refl, refl)
 
 name_most : (sub k : ℕ) → length (word sub (names k)) ≤ 17
 unfolding names
 name_most sub k =
-    by_test (λ b. length (word sub (cond b assigns (cond (eqb k 1) operations (cond (eqb k 3) constants (cond (eqb k 11) props []))))) ≤ 17) (eqb k 0) (λ _. table assigns shorts.0)
-    (λ _. by_test (λ b. length (word sub (cond b operations (cond (eqb k 3) constants (cond (eqb k 11) props [])))) ≤ 17) (eqb k 1) (λ _. table operations shorts.1)
-    (λ _. by_test (λ b. length (word sub (cond b constants (cond (eqb k 11) props []))) ≤ 17) (eqb k 3) (λ _. table constants shorts.2)
-    (λ _. by_test (λ b. length (word sub (cond b props [])) ≤ 17) (eqb k 11) (λ _. table props shorts.3) (λ _. table [] shorts.4))))
-  where
-    table : (t : List ℕ) → fits_in 17 17 t ≡ true → length (word sub t) ≤ 17
-    table t e = word_most 17 sub t e
+    by_test (λ b. length (word sub (cond b assigns (cond (eqb k 1) operations (cond (eqb k 3) constants (cond (eqb k 11) props []))))) ≤ 17) (eqb k 0) (λ _. word_most 17 sub assigns refl)
+    (λ _. by_test (λ b. length (word sub (cond b operations (cond (eqb k 3) constants (cond (eqb k 11) props [])))) ≤ 17) (eqb k 1) (λ _. word_most 17 sub operations refl)
+    (λ _. by_test (λ b. length (word sub (cond b constants (cond (eqb k 11) props []))) ≤ 17) (eqb k 3) (λ _. word_most 17 sub constants refl)
+    (λ _. by_test (λ b. length (word sub (cond b props [])) ≤ 17) (eqb k 11) (λ _. word_most 17 sub props refl) (λ _. omega arith))))
 
 -- ---- an instruction's line
 
@@ -104,16 +81,16 @@ module _ (r : Bytecode) (e : Encodes r) (low : (x : ℕ) → Memᴰ x (dsts_of r
       omega (
         arith,
         e.dsts,
-        length-append (listed (ascii "t") (ascii " ") (take r.ndst r.dsts)) (cond (eqb r.ndst 0) [] (ascii "<- ")),
-        listed_most (ascii "t") (ascii " ") (take r.ndst r.dsts) (omega arith) (λ x i. low x (Memᴰ.append_left (srcs_of r) i)),
+        length-append (listed (codes "t") (codes " ") (take r.ndst r.dsts)) (cond (eqb r.ndst 0) [] (codes "<- ")),
+        listed_most (codes "t") (codes " ") (take r.ndst r.dsts) (omega arith) (λ x i. low x (Memᴰ.append_left (srcs_of r) i)),
         length-take r.ndst r.dsts,
-        cond_most (eqb r.ndst 0) [] (ascii "<- ") 3 (omega arith) (omega arith),
+        cond_most (eqb r.ndst 0) [] (codes "<- ") 3 (omega arith) (omega arith),
       )
 
   sources_most : length (sources r) ≤ list_places * (2 + local_digits)
   unfolding sources srcs_of
   sources_most =
-      omega (arith, e.srcs, listed_most (ascii " t") [] (take r.nsrc r.srcs) (omega arith) (λ x i. low x (Memᴰ.append_right (dsts_of r) i)), length-take r.nsrc r.srcs)
+      omega (arith, e.srcs, listed_most (codes " t") [] (take r.nsrc r.srcs) (omega arith) (λ x i. low x (Memᴰ.append_right (dsts_of r) i)), length-take r.nsrc r.srcs)
 
   one_most : length (decimal r.one) ≤ number_digits
   one_most = number_most r.one e.one
@@ -123,23 +100,23 @@ module _ (r : Bytecode) (e : Encodes r) (low : (x : ℕ) → Memᴰ x (dsts_of r
   branch_most =
       omega (
         arith,
-        length-append (said (ascii " L") r.one ++ said (ascii " L") r.two) (ascii " on"),
-        length-append (said (ascii " L") r.one) (said (ascii " L") r.two),
-        said_most (ascii " L") r.one number_digits one_most,
-        said_most (ascii " L") r.two number_digits (number_most r.two e.two),
+        length-append (said (codes " L") r.one ++ said (codes " L") r.two) (codes " on"),
+        length-append (said (codes " L") r.one) (said (codes " L") r.two),
+        said_most (codes " L") r.one number_digits one_most,
+        said_most (codes " L") r.two number_digits (number_most r.two e.two),
       )
 
   labels_most : length (labels r) ≤ 7 + 2 * number_digits
   unfolding labels
   labels_most =
-      cond_most (eqb r.kind 4) (branch_labels r.one r.two) (cond (eqb r.kind 5 || eqb r.kind 6) (said (ascii " L") r.one) []) (7 + 2 * number_digits) branch_most
-      (cond_most (eqb r.kind 5 || eqb r.kind 6) (said (ascii " L") r.one) [] (7 + 2 * number_digits) (omega (arith, said_most (ascii " L") r.one number_digits one_most)) (omega arith))
+      cond_most (eqb r.kind 4) (branch_labels r.one r.two) (cond (eqb r.kind 5 || eqb r.kind 6) (said (codes " L") r.one) []) (7 + 2 * number_digits) branch_most
+      (cond_most (eqb r.kind 5 || eqb r.kind 6) (said (codes " L") r.one) [] (7 + 2 * number_digits) (omega (arith, said_most (codes " L") r.one number_digits one_most)) (omega arith))
 
   aborting_most : length (aborting r) ≤ 15 + 2 * number_digits
   unfolding aborting
   aborting_most =
-      cond_most (eqb r.flag 1) (said (ascii " abort L") r.one ++ said (ascii " into t") r.abort) [] (15 + 2 * number_digits)
-      (omega (arith, length-append (said (ascii " abort L") r.one) (said (ascii " into t") r.abort), said_most (ascii " abort L") r.one number_digits one_most, said_most (ascii " into t") r.abort number_digits (number_most r.abort (omega (arith, e.abort))))) (omega arith)
+      cond_most (eqb r.flag 1) (said (codes " abort L") r.one ++ said (codes " into t") r.abort) [] (15 + 2 * number_digits)
+      (omega (arith, length-append (said (codes " abort L") r.one) (said (codes " into t") r.abort), said_most (codes " abort L") r.one number_digits one_most, said_most (codes " into t") r.abort number_digits (number_most r.abort (omega (arith, e.abort))))) (omega arith)
 
   does_most : length (does r) ≤ 38 + 2 * number_digits + list_places * (2 + local_digits)
   unfolding does
@@ -160,13 +137,13 @@ module _ (r : Bytecode) (e : Encodes r) (low : (x : ℕ) → Memᴰ x (dsts_of r
   takes_most =
       omega (
         arith,
-        length-append (sources r ++ aborting r ++ marked (ascii " #") r.payload) (marked (ascii " @") r.attr),
-        length-append (sources r ++ aborting r) (marked (ascii " #") r.payload),
+        length-append (sources r ++ aborting r ++ marked (codes " #") r.payload) (marked (codes " @") r.attr),
+        length-append (sources r ++ aborting r) (marked (codes " #") r.payload),
         length-append (sources r) (aborting r),
         sources_most,
         aborting_most,
-        marked_most (ascii " #") r.payload payload_digits (decimal_short 9 r.payload (omega (arith, e.payload))),
-        marked_most (ascii " @") r.attr number_digits (number_most r.attr e.attr),
+        marked_most (codes " #") r.payload payload_digits (length-decimal-le 10 r.payload (omega arith) (omega (arith, e.payload)) (omega (arith, e.payload))),
+        marked_most (codes " @") r.attr number_digits (number_most r.attr e.attr),
       )
 
   line_most : (k : ℕ) → k < max_instructions → length (code_line k r) ≤ code_line_bytes
@@ -174,10 +151,10 @@ module _ (r : Bytecode) (e : Encodes r) (low : (x : ℕ) → Memᴰ x (dsts_of r
   line_most k h =
       omega (
         arith,
-        length-append (decimal k ++ ascii ": " ++ does r ++ takes r) (ascii "\n"),
-        length-append (decimal k ++ ascii ": " ++ does r) (takes r),
-        length-append (decimal k ++ ascii ": ") (does r),
-        length-append (decimal k) (ascii ": "),
+        length-append (decimal k ++ codes ": " ++ does r ++ takes r) (codes "\n"),
+        length-append (decimal k ++ codes ": " ++ does r) (takes r),
+        length-append (decimal k ++ codes ": ") (does r),
+        length-append (decimal k) (codes ": "),
         number_most k (omega arith),
         does_most,
         takes_most,
@@ -190,16 +167,16 @@ unfolding joins
 joins_most m zero f h = omega arith
 joins_most m (suc n) f h = omega (arith, length-append (joins n f) (f n), h n (omega arith), joins_most m n f (λ k l. h k (omega arith)))
 
-members_most : (n k : ℕ) (f : ℕ → Bool) → k + n ≤ max_locals → length (listed (ascii " t") [] (keep n k f)) ≤ n * (2 + local_digits)
-unfolding keep listed gather
+members_most : (n k : ℕ) (f : ℕ → Bool) → k + n ≤ max_locals → length (listed (codes " t") [] (keep n k f)) ≤ n * (2 + local_digits)
+unfolding keep listed
 members_most zero k f h = omega arith
 members_most (suc n) k f h =
-    by_test (λ b. length (listed (ascii " t") [] (cond b (k ∷ keep n (suc k) f) (keep n (suc k) f))) ≤ suc n * (2 + local_digits)) (f k)
-    (λ _. omega (arith, length-append (said (ascii " t") k ++ []) (listed (ascii " t") [] (keep n (suc k) f)), length-append (said (ascii " t") k) [], said_most (ascii " t") k local_digits (local_most k (omega arith)), members_most n (suc k) f (omega arith)))
+    by_test (λ b. length (listed (codes " t") [] (cond b (k ∷ keep n (suc k) f) (keep n (suc k) f))) ≤ suc n * (2 + local_digits)) (f k)
+    (λ _. omega (arith, length-append (said (codes " t") k ++ []) (listed (codes " t") [] (keep n (suc k) f)), length-append (said (codes " t") k) [], said_most (codes " t") k local_digits (local_most k (omega arith)), members_most n (suc k) f (omega arith)))
     (λ _. omega (arith, members_most n (suc k) f (omega arith)))
 
 pub locals_most : (m : ℕ) → length (locals_in m) ≤ locals_bytes
-unfolding locals_in
+unfolding locals_below
 locals_most m = members_most max_locals 0 (holds m) (omega arith)
 
 module _ (s : List ℕ) (bytes : Bytes s) (accepted : check_sheet s ≡ Accepted) where
@@ -209,21 +186,21 @@ module _ (s : List ℕ) (bytes : Bytes s) (accepted : check_sheet s ≡ Accepted
       let v = accepted_valid s accepted in
       omega (
         arith,
-        length-append (said (ascii "locals ") (locals_of s) ++ said (ascii " user ") (user_locals_of s) ++ said (ascii " parameters ") (parameters_of s)) (ascii " references"),
-        length-append (said (ascii "locals ") (locals_of s) ++ said (ascii " user ") (user_locals_of s)) (said (ascii " parameters ") (parameters_of s)),
-        length-append (said (ascii "locals ") (locals_of s)) (said (ascii " user ") (user_locals_of s)),
-        said_most (ascii "locals ") (locals_of s) number_digits (number_most (locals_of s) (omega (arith, v.locals))),
-        said_most (ascii " user ") (user_locals_of s) number_digits (number_most (user_locals_of s) (omega (arith, v.locals, v.users))),
-        said_most (ascii " parameters ") (parameters_of s) number_digits (number_most (parameters_of s) (omega (arith, v.locals, v.users, v.params))),
+        length-append (said (codes "locals ") (locals_of s) ++ said (codes " user ") (user_locals_of s) ++ said (codes " parameters ") (parameters_of s)) (codes " references"),
+        length-append (said (codes "locals ") (locals_of s) ++ said (codes " user ") (user_locals_of s)) (said (codes " parameters ") (parameters_of s)),
+        length-append (said (codes "locals ") (locals_of s)) (said (codes " user ") (user_locals_of s)),
+        said_most (codes "locals ") (locals_of s) number_digits (number_most (locals_of s) (omega (arith, v.locals))),
+        said_most (codes " user ") (user_locals_of s) number_digits (number_most (user_locals_of s) (omega (arith, v.locals, v.users))),
+        said_most (codes " parameters ") (parameters_of s) number_digits (number_most (parameters_of s) (omega (arith, v.locals, v.users, v.params))),
       )
 
   heading_most : length (heading_text s) ≤ heading_bytes
   unfolding heading_text
   heading_most =
-      omega (arith, length-append (counts s ++ locals_in (refs_of s)) (ascii "\n"), length-append (counts s) (locals_in (refs_of s)), counts_most, locals_most (refs_of s))
+      omega (arith, length-append (counts s ++ locals_in (refs_of s)) (codes "\n"), length-append (counts s) (locals_in (refs_of s)), counts_most, locals_most (refs_of s))
 
   pub code_most : length (code_text s) ≤ code_bytes
-  unfolding code_text
+  unfolding code_text code_lines
   code_most =
       omega (
         arith,

@@ -1,5 +1,5 @@
 -- Marks at the Labels that are named, made slot by slot, and the texts of those that have none. Assumes nothing.
-use Rattle.std.specs.Prelude.{◌≡◌, ℕ, ◌<◌, Bool, cond, not, ◌&&◌, eqb, get_or, set, length, take, List, []}
+use Rattle.std.specs.Prelude.{◌≡◌, ℕ, ◌*◌, ◌<◌, Bool, true, false, cond, not, ◌&&◌, eqb, get_or, set, length, take, List, [], codes}
 use mathlib.Core.List.{Memᴰ}
 use Rattle.base.specs.Lists.{gather}
 use Rattle.stackless_bytecode.specs.declared.Bytecode.{Bytecode}
@@ -7,33 +7,31 @@ use Rattle.stackless_bytecode.specs.declared.Lookup.TheVariants.{Named}
 use Rattle.stackless_bytecode.specs.Kinds.{Label, at, label_of}
 use Rattle.stackless_bytecode.specs.Labels.{lookup, is_named}
 use Rattle.stackless_bytecode.specs.Slots.{no_label, slot_at}
-use Rattle.listing.specs.Words.{ascii, said}
+use Rattle.stackless_bytecode.specs.SlotLaws.{LabelsBelow}
+use Rattle.listing.specs.Words.{said}
 use Rattle.pages.specs.Page.{unnamed_text}
 
 -- ---- marks
 
--- 1 put at offset o, where a slot's label l is one
-unfoldable pub mark_name : List ℕ → ℕ → ℕ → List ℕ
-mark_name marks l o = cond (eqb l no_label) marks (set marks o 1)
-
 -- what is marked once the first e slots are passed
-pub record MarkedTo (code : List Bytecode) (targets : List ℕ) (e : ℕ) (marks : List ℕ) : Type 0 where
-  pub sound : (o : ℕ) → get_or marks o 0 ≡ 1 → (l : ℕ) × (lookup code l ≡ Named o)
-  pub done : (i : ℕ) → i < e → slot_at code i < no_label → get_or marks (get_or targets i 0) 0 ≡ 1
+pub record MarkedTo (code : List Bytecode) (targets : List ℕ) (e : ℕ) (marks : List Bool) : Type 0 where
+  pub sound : (o : ℕ) → get_or marks o false ≡ true → (l : ℕ) × (lookup code l ≡ Named o)
+  pub done : (i : ℕ) → i < e → slot_at code i < no_label → get_or marks (get_or targets i 0) false ≡ true
+  pub below : (k : ℕ) → 2 * k < e → LabelsBelow (at code k)
 
--- 1 at a Label that is named, and not at another
-pub record NamedMarks (code : List Bytecode) (marks : List ℕ) : Type 0 where
-  pub each : (k l : ℕ) → k < length code → Memᴰ l (label_of (at code k)) → eqb (get_or marks k 0) 1 ≡ is_named (lookup code l)
+-- a mark at a Label that is named, and none at another
+pub record NamedMarks (code : List Bytecode) (marks : List Bool) : Type 0 where
+  pub each : (k l : ℕ) → k < length code → Memᴰ l (label_of (at code k)) → get_or marks k false ≡ is_named (lookup code l)
 
 -- ---- texts
 
 -- a Label that has no mark
-unfoldable pub is_unmarked : Bytecode → ℕ → Bool
-is_unmarked r mark = eqb r.kind Label && not (eqb mark 1)
+unfoldable pub is_unmarked : Bytecode → Bool → Bool
+is_unmarked r mark = eqb r.kind Label && not mark
 
 -- its text
-unfoldable pub unmarked_text : Bytecode → ℕ → List ℕ
-unmarked_text r mark = cond (is_unmarked r mark) (said (ascii " L") r.one) []
+unfoldable pub unmarked_text : Bytecode → Bool → List ℕ
+unmarked_text r mark = cond (is_unmarked r mark) (said (codes " L") r.one) []
 
 -- the text of the first k instructions
 unfoldable pub unnamed_to : List Bytecode → ℕ → List ℕ

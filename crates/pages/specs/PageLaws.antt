@@ -1,44 +1,38 @@
 -- The page as its functions write it: the rewritten code, the sections, and what the call replies. Assumes nothing.
-use Rattle.std.specs.Prelude.{◌≡◌, List, ◌++◌, ℕ, ◌≤◌, ◌<◌, refl, length, take, drop}
+use Rattle.base.specs.declared.Refusal.TheVariants.{OutputShort}
+use Rattle.std.specs.Prelude.{◌≡◌, List, ◌++◌, ℕ, ◌≤◌, ◌<◌, refl, length, take, drop, Result, Ok, Err}
 use Rattle.std.proofs.Common.{sym, ap, ap₂, ◌∙◌, arith, length-append, take_at}
 use Rattle.base.specs.Sizes.{max_bytes}
-use Rattle.base.specs.declared.Answer.{Answer}
-use Rattle.base.specs.declared.Answer.TheVariants as answer
 use Rattle.base.specs.declared.Refusal.{Refusal}
-use Rattle.base.specs.Refusals.{number_of, place_of, Verdict, Accepted, Refused, Reply, No, Done, Result, result_of, answer_of}
+use Rattle.base.specs.Refusals.{Verdict, Accepted, Reply, Done, answer_of}
 use Rattle.base.specs.RefusalLaws.{lends_short, lends_enough}
 use Rattle.base.specs.ReplyLaws.{reply_refused, reply_done, done_value, done_not, done_written}
-use Rattle.sheet.specs.Layout.{code_of, locals_of}
 use Rattle.sheet.specs.Checks.{check_sheet}
 use Rattle.base.specs.Bytes.{Bytes}
-use Rattle.stackless_control_flow_graph.specs.Blocks.{blocks_of, flow_table}
-use Rattle.livevar_analysis.specs.Analysis.{analyze}
 use Rattle.livevar_transform.specs.Rewrite.{new_sheet, rewrite_reply}
 use Rattle.livevar_transform.specs.RewriteWork.{accepted_reply, RewriteAnswers}
 use Rattle.livevar_transform.specs.RewriteAcceptedLaws.{rewritten_accepted}
 use Rattle.livevar_transform.specs.RewriteCallLaws.{rewrite_asked, replied}
-use Rattle.listing.specs.Words.{ascii}
 use Rattle.listing.specs.Lines.{refused_text}
 use Rattle.pages.specs.Code.{code_text}
 use Rattle.pages.specs.Size.{page_bytes}
-use Rattle.pages.specs.Page.{flow_text, unnamed_line, live_text, rewritten_text, sections, page_by, page, page_reply}
+use Rattle.pages.specs.Page.{rewritten_text, sections, page_by, page, page_reply}
 
 -- ---- the rewritten code
 
-module _ (s out out' : List ℕ) (a : Answer) (accepted : check_sheet s ≡ Accepted) (answers : RewriteAnswers s out a out') where
+module _ (s out out' : List ℕ) (a : Result ℕ Refusal) (accepted : check_sheet s ≡ Accepted) (answers : RewriteAnswers s out a out') where
   asked : rewrite_reply s max_bytes ≡ accepted_reply s
   asked = rewrite_asked s max_bytes accepted (omega arith)
 
   -- the line of a refusal
-  pub rewrite_refused : (f : Refusal) → a ≡ answer.Refused f → refused_text (number_of f) (place_of f) ≡ rewritten_text (rewrite_reply s max_bytes)
-  unfolding result_of rewritten_text
-  rewrite_refused f told = by (accepted_reply s) refl ∙ ap rewritten_text (sym asked)
+  pub rewrite_refused : (e : Refusal) → a ≡ Err e → refused_text e ≡ rewritten_text (rewrite_reply s max_bytes)
+  unfolding rewritten_text
+  rewrite_refused e told = by (accepted_reply s) refl ∙ ap rewritten_text (sym asked)
     where
-      by : (r : Reply) → accepted_reply s ≡ r → refused_text (number_of f) (place_of f) ≡ rewritten_text (accepted_reply s)
-      by (No n p) e =
-          let q : answer_of (answer.Refused f) ≡ result_of (No n p) = sym (ap answer_of told) ∙ answers.result ∙ ap result_of e in
-          ap₂ refused_text (ap (λ (x : Result). x.number) q) (ap (λ (x : Result). x.value) q) ∙ ap rewritten_text (sym e)
-      by (Done v t) e = absurd (done_not a answers.result e f told)
+      by : (r : Reply) → accepted_reply s ≡ r → refused_text e ≡ rewritten_text (accepted_reply s)
+      by (Err f) q =
+          let same : e ≡ f = (let z : ◌≡◌ {A = Result ℕ Refusal} (Err e) (Err f) = sym told ∙ answers.result ∙ ap answer_of q in cc) in ap refused_text same ∙ ap rewritten_text (sym q)
+      by (Ok d) q = absurd (done_not answers.result q e told)
 
   -- the new sheet: its code's text, its length, and that it is accepted
   pub record NewSheet (m : ℕ) : Type 0 where
@@ -46,11 +40,11 @@ module _ (s out out' : List ℕ) (a : Answer) (accepted : check_sheet s ≡ Acce
     pub room : m ≤ length out'
     pub again : check_sheet (take m out') ≡ Accepted
 
-  pub rewrite_written : (m : ℕ) → Bytes s → a ≡ answer.Value m → NewSheet m
+  pub rewrite_written : (m : ℕ) → Bytes s → a ≡ Ok m → NewSheet m
   unfolding rewritten_text
   rewrite_written m bytes told =
-      let e : accepted_reply s ≡ Done (length (new_sheet s)) (new_sheet s) = replied s (sym (ap (λ (x : Result). x.number) answers.result) ∙ ap (λ (x : Answer). (answer_of x).number) told) in
-      let size : m ≡ length (new_sheet s) = done_value a answers.result e told in
+      let e : accepted_reply s ≡ Done (length (new_sheet s)) (new_sheet s) = replied s (sym answers.result ∙ told) in
+      let size : m ≡ length (new_sheet s) = done_value answers.result e told in
       let is : out' ≡ new_sheet s ++ drop (length (new_sheet s)) out = done_written out answers.written e in
       let new : take m out' ≡ new_sheet s = ap (take m) is ∙ take_at (new_sheet s) (drop (length (new_sheet s)) out) m (sym size) in
       record {
@@ -61,22 +55,17 @@ module _ (s out out' : List ℕ) (a : Answer) (accepted : check_sheet s ≡ Acce
 
 -- ---- the page
 
-pub sections_is : (s : List ℕ)
-    → (ascii "code\n" ++ code_text s) ++ (ascii "\nflow\n" ++ flow_text (blocks_of (code_of s)) (flow_table (code_of s)) ++ unnamed_line (code_of s)) ++ (ascii "\nlive\n" ++ live_text (analyze (code_of s) (locals_of s)).info (analyze (code_of s) (locals_of s)).taken) ++ (ascii "\nrewritten\n" ++ rewritten_text (rewrite_reply s max_bytes)) ≡ sections s
-unfolding sections
-sections_is s = refl
-
 pub page_accepted : (s : List ℕ) → check_sheet s ≡ Accepted → sections s ≡ page s
 unfolding page page_by
 page_accepted s e = sym (ap (λ (a : Verdict). page_by a s) e)
 
-pub page_refused : (s : List ℕ) (num place : ℕ) → check_sheet s ≡ Refused num place → refused_text num place ≡ page s
+pub page_refused : (s : List ℕ) (e : Refusal) → check_sheet s ≡ Err e → refused_text e ≡ page s
 unfolding page page_by
-page_refused s num place e = sym (ap (λ (a : Verdict). page_by a s) e)
+page_refused s e q = sym (ap (λ (a : Verdict). page_by a s) q)
 
 -- ---- the call
 
-pub page_short_lent : (s : List ℕ) (lent : ℕ) → lent < page_bytes → page_reply s lent ≡ No 9 0
+pub page_short_lent : (s : List ℕ) (lent : ℕ) → lent < page_bytes → page_reply s lent ≡ Err OutputShort
 unfolding page_reply
 page_short_lent s lent h = reply_refused _ (lends_short h)
 

@@ -1,13 +1,11 @@
--- Words of a text, and numbers behind words. Assumes nothing.
-use Rattle.std.specs.Prelude.{ℕ, zero, suc, cond, List, [], ◌∷◌, ◌++◌, eqb}
+-- Words, and numbers behind words. Assumes nothing.
+use Rattle.std.specs.Prelude.{ℕ, cond, List, [], ◌++◌, eqb, get_or}
 use Rattle.base.specs.Lists.{gather}
 use Rattle.listing.specs.Words.{said}
 
--- word i of a text that has a bar behind each word
-unfoldable pub word : ℕ → List ℕ → List ℕ
-word i [] = []
-word zero (b ∷ bs) = cond (eqb b 124) [] (b ∷ word zero bs)
-word (suc i) (b ∷ bs) = cond (eqb b 124) (word i bs) (word (suc i) bs)
+-- word i of a list, and nothing where it has none
+abbrev pub word : ℕ → List (List ℕ) → List ℕ
+word i words = get_or words i []
 
 -- a word and a number, and nothing where the number is 0
 unfoldable pub marked : List ℕ → ℕ → List ℕ

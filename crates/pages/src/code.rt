@@ -1,188 +1,151 @@
 // A sheet's code as text: its heading, and a line for each instruction. Assumes nothing.
-ghost use Rattle.std.specs.Prelude.{◌≡◌, ◌<◌, ◌≤◌, length};
-ghost use Rattle.base.specs.Sizes.{set_bytes, block_bytes};
-ghost use Rattle.base.specs.Bytes.{number};
+ghost use Rattle.std.specs.Prelude.{◌≡◌, ◌+◌, ◌<◌, ◌≤◌, length, take};
+ghost use Rattle.base.specs.Bytes.{number, u16_at};
+ghost use Rattle.listing.specs.Words.{said};
 ghost use Rattle.base.specs.Refusals.{Accepted};
+ghost use Rattle.base.specs.Sizes.{set_bytes, block_bytes};
 ghost use Rattle.sheet.specs.Checks.{check_sheet};
-ghost use Rattle.listing.specs.Output.{Wrote};
-ghost use Rattle.pages.specs.Words.{word};
-ghost use Rattle.pages.specs.Code.{verbs, names, destinations, branch_labels, labels, sources, aborting, does, takes, code_line, locals_in, counts, heading_text, code_text};
-ghost use Rattle.pages.specs.Parts.{local_shown};
+ghost use Rattle.listing.specs.Writer.{◌with_text◌};
+ghost use Rattle.pages.specs.Code.{destinations, labels, sources, aborting, does, takes, code_line, locals_in, counts, heading_text, code_text};
 
-use crate::words::{put_listed, put_mark, put_word};
-use base::width::{u8_to_u32, u8_to_usize, u16_to_u32};
-use base::{MAX_LOCALS, REFS_AT, REFS_END};
+use crate::names::{name, verb};
+use crate::words::{put_listed, put_mark};
+use base::{LIST_PLACES, MAX_LOCALS, REFS_AT, REFS_END};
 use dataflow_domains::LiveVarState;
-use listing::output::{put_bytes, put_decimal, put_number};
+use listing::writer::Writer;
 use sheet::reader::{instruction_at, u16_at};
-use stackless_bytecode::Bytecode;
+use stackless_bytecode::{Bytecode, Kind};
 
-// What an instruction of each kind begins with.
-const VERBS: [u8; 71] = *b"|call |ret|load |branch|jump|label|abort|nop|savemem|savespecvar|prop |";
-
-// The enum `Operation`.
-const OPERATIONS: [u8; 431] =
-    *b"Function|OpaqueCallBegin|OpaqueCallEnd|Pack|Unpack|MoveTo|MoveFrom|Exists|BorrowLoc|BorrowField|BorrowGlobal|GetField|GetGlobal|Destroy|ReadRef|WriteRef|FreezeRef|Havoc|Stop|IsParent|WriteBack|UnpackRef|PackRef|UnpackRefDeep|PackRefDeep|CastU8|CastU64|CastU128|Not|Add|Sub|Mul|Div|Mod|BitOr|BitAnd|Xor|Shl|Shr|Lt|Gt|Le|Ge|Or|And|Eq|Neq|CastU256|TraceLocal|TraceReturn|TraceAbort|TraceExp|TraceGlobalMem|EmitEvent|EventStoreDiverge|";
-
-// What an instruction of this kind begins with.
-fn put_verb(kind: u8, out: &mut [u8], at: usize) -> usize
-    ensures { Wrote out.old at (word kind verbs) out.new result }
+// The first n places of a list, or all that it has.
+fn first_places(places: &[u8; LIST_PLACES], n: u8) -> &[u8]
+    ensures { result.now ≡ take n places.now }
 {
-    put_word(&VERBS, u8_to_usize(kind), out, at)
+    &places[..LIST_PLACES.min(usize::from(n))]
 }
 
-// The name of an instruction's sub.
-fn put_name(kind: u8, sub: u8, out: &mut [u8], at: usize) -> usize
-    ensures { Wrote out.old at (word sub (names kind)) out.new result }
+#[tactic(auto, using(listing::specs::WriterLaws::texts), unfolding(crate::specs::Code::destinations, stackless_bytecode::specs::Kinds::dsts_of))]
+fn put_destinations(r: Bytecode, out: &mut Writer)
+    ensures { out.new ≡ out.old with_text destinations r }
 {
-    match kind {
-        0 => put_word(b"copy|move|store|", u8_to_usize(sub), out, at),
-        1 => put_word(&OPERATIONS, u8_to_usize(sub), out, at),
-        3 => put_word(
-            b"Bool|U8|U64|U128|U256|Address|ByteArray|",
-            u8_to_usize(sub),
-            out,
-            at,
-        ),
-        11 => put_word(b"Assert|Assume|Modifies|", u8_to_usize(sub), out, at),
-        _ => at,
+    put_listed(b"t", b" ", first_places(&r.dsts, r.ndst), out);
+    if r.ndst != 0 {
+        out.put(b"<- ");
     }
 }
 
-fn put_destinations(r: Bytecode, out: &mut [u8], at: usize) -> usize
-    ensures { Wrote out.old at (destinations r) out.new result }
+#[tactic(auto, using(listing::specs::WriterLaws::texts), unfolding(crate::specs::Code::labels, crate::specs::Code::branch_labels))]
+fn put_labels(r: Bytecode, out: &mut Writer)
+    ensures { out.new ≡ out.old with_text labels r }
 {
-    let d = r.dsts;
-    let n = u8_to_usize(r.ndst);
-    let e = put_listed(b"t", b" ", &d, n, out, at);
-    if n == 0 {
-        return e;
-    }
-    put_bytes(b"<- ", out, e)
-}
-
-fn put_branch(one: u16, two: u16, out: &mut [u8], at: usize) -> usize
-    ensures { Wrote out.old at (branch_labels one two) out.new result }
-{
-    let a = put_number(b" L", u16_to_u32(one), out, at);
-    let e = put_number(b" L", u16_to_u32(two), out, a);
-    put_bytes(b" on", out, e)
-}
-
-fn put_labels(r: Bytecode, out: &mut [u8], at: usize) -> usize
-    ensures { Wrote out.old at (labels r) out.new result }
-{
-    let kind = r.kind;
-    match kind {
-        4 => put_branch(r.one, r.two, out, at),
-        5 => put_number(b" L", u16_to_u32(r.one), out, at),
-        6 => put_number(b" L", u16_to_u32(r.one), out, at),
-        _ => at,
+    if r.is(Kind::Branch) {
+        out.put_number(b" L", u32::from(r.one));
+        out.put_number(b" L", u32::from(r.two));
+        out.put(b" on");
+    } else if r.is(Kind::Jump) || r.is(Kind::Label) {
+        out.put_number(b" L", u32::from(r.one));
     }
 }
 
-fn put_sources(r: Bytecode, out: &mut [u8], at: usize) -> usize
-    ensures { Wrote out.old at (sources r) out.new result }
+#[tactic(auto, unfolding(crate::specs::Code::sources, stackless_bytecode::specs::Kinds::srcs_of))]
+fn put_sources(r: Bytecode, out: &mut Writer)
+    ensures { out.new ≡ out.old with_text sources r }
 {
-    let d = r.srcs;
-    put_listed(b" t", b"", &d, u8_to_usize(r.nsrc), out, at)
+    put_listed(b" t", b"", first_places(&r.srcs, r.nsrc), out);
 }
 
-fn put_aborting(r: Bytecode, out: &mut [u8], at: usize) -> usize
-    ensures { Wrote out.old at (aborting r) out.new result }
+#[tactic(auto, using(listing::specs::WriterLaws::texts), unfolding(crate::specs::Code::aborting))]
+fn put_aborting(r: Bytecode, out: &mut Writer)
+    ensures { out.new ≡ out.old with_text aborting r }
 {
     if r.flag == 1 {
-        let e = put_number(b" abort L", u16_to_u32(r.one), out, at);
-        return put_number(b" into t", u8_to_u32(r.abort), out, e);
+        out.put_number(b" abort L", u32::from(r.one));
+        out.put_number(b" into t", u32::from(r.abort));
     }
-    at
 }
 
-fn put_does(r: Bytecode, out: &mut [u8], at: usize) -> usize
-    ensures { Wrote out.old at (does r) out.new result }
+#[tactic(auto, using(listing::specs::WriterLaws::texts), unfolding(crate::specs::Code::does))]
+fn put_does(r: Bytecode, out: &mut Writer)
+    ensures { out.new ≡ out.old with_text does r }
 {
-    let a = put_destinations(r, out, at);
-    let b = put_verb(r.kind, out, a);
-    let e = put_name(r.kind, r.sub, out, b);
-    put_labels(r, out, e)
+    put_destinations(r, out);
+    out.put(verb(r.kind));
+    out.put(name(r));
+    put_labels(r, out);
 }
 
-fn put_takes(r: Bytecode, out: &mut [u8], at: usize) -> usize
-    ensures { Wrote out.old at (takes r) out.new result }
+#[tactic(auto, using(listing::specs::WriterLaws::texts), unfolding(crate::specs::Code::takes))]
+fn put_takes(r: Bytecode, out: &mut Writer)
+    ensures { out.new ≡ out.old with_text takes r }
 {
-    let a = put_sources(r, out, at);
-    let b = put_aborting(r, out, a);
-    let e = put_mark(b" #", r.payload, out, b);
-    put_mark(b" @", u16_to_u32(r.attr), out, e)
+    put_sources(r, out);
+    put_aborting(r, out);
+    put_mark(b" #", r.payload, out);
+    put_mark(b" @", u32::from(r.attr), out);
 }
 
 // The line of the instruction at offset k.
-fn put_code_line(k: u32, r: Bytecode, out: &mut [u8], at: usize) -> usize
-    ensures { Wrote out.old at (code_line k r) out.new result }
+#[tactic(auto, using(listing::specs::WriterLaws::texts), unfolding(crate::specs::Code::code_line))]
+fn put_code_line(k: u32, r: Bytecode, out: &mut Writer)
+    ensures { out.new ≡ out.old with_text code_line k r }
 {
-    let a = put_decimal(k, out, at);
-    let b = put_bytes(b": ", out, a);
-    let d = put_does(r, out, b);
-    let e = put_takes(r, out, d);
-    put_bytes(b"\n", out, e)
-}
-
-// A local, where it is in the set.
-fn put_local(is_in: bool, local: u8, out: &mut [u8], at: usize) -> usize
-    ensures { Wrote out.old at (local_shown is_in local) out.new result }
-{
-    if is_in {
-        return put_number(b" t", u8_to_u32(local), out, at);
-    }
-    at
+    out.put_decimal(k);
+    out.put(b": ");
+    put_does(r, out);
+    put_takes(r, out);
+    out.put(b"\n");
 }
 
 // The locals of the set in bytes p.
-pub fn put_locals(p: &[u8], out: &mut [u8], at: usize) -> usize
+#[tactic(auto, using(listing::specs::WriterLaws::texts, crate::specs::CodeLaws::local_steps))]
+pub fn put_locals(p: &[u8], out: &mut Writer)
     requires { length p.now ≡ set_bytes }
-    ensures { Wrote out.old at (locals_in (number p.now)) out.new result }
+    ensures { out.new ≡ out.old with_text locals_in (number p.now) }
 {
     let set = LiveVarState::load_bytes(p);
-    let mut i = 0;
-    let mut e = at;
-    while i < MAX_LOCALS {
-        let local = i as u8;
-        e = put_local(set.has(local), local, out, e);
-        i += 1;
+    for i in 0..MAX_LOCALS {
+        if set.has(i as u8) {
+            out.put_number(b" t", i as u32);
+        }
     }
-    e
 }
 
-fn put_counts(s: &[u8], out: &mut [u8], at: usize) -> usize
+// A word, and the number in the two bytes from `at` on.
+fn put_count(word: &[u8], s: &[u8], at: usize, out: &mut Writer)
+    requires { at + 1 < length s.now }
+    ensures { out.new ≡ out.old with_text said word.now (u16_at s.now at) }
+{
+    out.put_number(word, u32::from(u16_at(s, at)));
+}
+
+#[tactic(auto, using(listing::specs::WriterLaws::texts), unfolding(crate::specs::Code::counts, sheet::specs::Layout::locals_of, sheet::specs::Layout::user_locals_of, sheet::specs::Layout::parameters_of))]
+fn put_counts(s: &[u8], out: &mut Writer)
     requires { 11 < length s.now }
-    ensures { Wrote out.old at (counts s.now) out.new result }
+    ensures { out.new ≡ out.old with_text counts s.now }
 {
-    let a = put_number(b"locals ", u16_to_u32(u16_at(s, 6)), out, at);
-    let b = put_number(b" user ", u16_to_u32(u16_at(s, 8)), out, a);
-    let e = put_number(b" parameters ", u16_to_u32(u16_at(s, 10)), out, b);
-    put_bytes(b" references", out, e)
+    put_count(b"locals ", s, 6, out);
+    put_count(b" user ", s, 8, out);
+    put_count(b" parameters ", s, 10, out);
+    out.put(b" references");
 }
 
-fn put_heading(s: &[u8], out: &mut [u8], at: usize) -> usize
+#[tactic(auto, using(listing::specs::WriterLaws::texts), unfolding(crate::specs::Code::heading_text, sheet::specs::Layout::refs_of))]
+fn put_heading(s: &[u8], out: &mut Writer)
     requires { block_bytes ≤ length s.now }
-    ensures { Wrote out.old at (heading_text s.now) out.new result }
+    ensures { out.new ≡ out.old with_text heading_text s.now }
 {
-    let a = put_counts(s, out, at);
-    let e = put_locals(&s[REFS_AT..REFS_END], out, a);
-    put_bytes(b"\n", out, e)
+    put_counts(s, out);
+    put_locals(&s[REFS_AT..REFS_END], out);
+    out.put(b"\n");
 }
 
 // The heading, and a line for each instruction.
-pub fn put_code(s: &[u8], out: &mut [u8], at: usize) -> usize
+#[tactic(auto, using(listing::specs::WriterLaws::texts, crate::specs::CodeLaws::line_steps, crate::specs::CodeLaws::heading_there))]
+pub fn put_code(s: &[u8], out: &mut Writer)
     requires { check_sheet s.now ≡ Accepted }
-    ensures { Wrote out.old at (code_text s.now) out.new result }
+    ensures { out.new ≡ out.old with_text code_text s.now }
 {
-    let n = u16_to_u32(u16_at(s, 4));
-    let mut e = put_heading(s, out, at);
-    let mut k = 0u32;
-    while k < n {
-        e = put_code_line(k, instruction_at(s, k as usize), out, e);
-        k += 1;
+    put_heading(s, out);
+    for k in 0..usize::from(u16_at(s, 4)) {
+        put_code_line(k as u32, instruction_at(s, k), out);
     }
-    e
 }

@@ -6,76 +6,65 @@ ghost use Rattle.std.specs.Prelude.{◌≡◌, length};
 mod calls; // calls.rt: each call beside a stored answer
 
 use crate::calls::{GRAPH_BYTES, ask};
+use agreement::StoredCase;
 use std::io;
-use stored_cases::packed::{ROOM, TOO_LONG, fill_behind, unpack};
+use stored_cases::packed::{FILL, ROOM, unpack};
 use stored_cases::stored::{HEAD_BYTES, ROW_BYTES, Row, cases_in, row_of};
-use stored_cases::tally::{COUNTS, Came, count, print_counts, say};
+use stored_cases::tally::{Asked, Tally};
 use streams::read_input;
 
 // The longest file.
 const FILE_BYTES: usize = 2097152;
 
-// Room for the file. The promise gives only the length, so that no proof counts the zeros.
+// Room for the file. The promise gives only the length: where the array is made in `main`, the check counts its zeros, and runs out of stack.
 fn file_room() -> [u8; FILE_BYTES]
-    ensures { 2097152 ≡ length result }
+    ensures { length result ≡ FILE_BYTES }
 {
     [0u8; FILE_BYTES]
 }
 
-// The bytes of a packed string of the file, unpacked to the front of `out`, which is all zeros; the result is their number, above ROOM where they are damaged.
-fn unpack_from(file: &[u8], from: usize, long: usize, out: &mut [u8]) -> usize {
-    if file.len() < from {
-        return TOO_LONG;
-    }
-    if file.len() - from < long {
-        return TOO_LONG;
-    }
-    let to = from + long;
-    unpack(&file[from..to], out)
-}
-
-// One case: the call is made, and its answer compared.
-fn replayed(file: &[u8], r: Row) -> Came {
+// One case: the call is made, and its answer compared. None where the case is damaged.
+fn replayed(file: &[u8], row: Row) -> Option<Asked> {
     let mut input = [0u8; ROOM];
     let mut second = [0u8; GRAPH_BYTES];
     let mut want = [0u8; ROOM];
-    let i = unpack_from(file, r.input, r.input_long, &mut input);
-    let s = unpack_from(file, r.second, r.second_long, &mut second);
-    let w = unpack_from(file, r.written, r.written_long, &mut want);
-    if i > ROOM {
-        return Came::Damaged;
-    }
-    if s > GRAPH_BYTES {
-        return Came::Damaged;
-    }
-    if w > ROOM {
-        return Came::Damaged;
-    }
-    fill_behind(&mut want, w);
-    ask(r.op, &input[..i], &second[..s], r.lent, r.result, &want)
+    let i = unpack(row.input.part(file)?, &mut input)?;
+    let s = unpack(row.second.part(file)?, &mut second)?;
+    let w = unpack(row.written.part(file)?, &mut want)?;
+    want[w..].fill(FILL);
+    let op = row.op?;
+    let stored = StoredCase {
+        lent: row.lent,
+        result: row.result,
+        want: &want,
+    };
+    let same = ask(op, &input[..i], &second[..s], stored)?;
+    Some(Asked {
+        op,
+        wrong: row.wrong,
+        same,
+    })
 }
 
 // Every case of a file, counted, and a line for each that is not as it should be.
-fn replay(rt: &impl Print, file: &[u8], counts: &mut [u32]) -> io::Result<()> {
-    let n = cases_in(file);
-    if n == 0 {
-        return say(rt, counts, b"damaged\n");
-    }
-    let mut k = 0;
-    while k < n {
-        let at = HEAD_BYTES + ROW_BYTES * k;
-        let to = at + ROW_BYTES;
-        let r = row_of(&file[at..to]);
-        count(rt, counts, k, r.op, r.wrong, replayed(file, r))?;
-        k += 1;
+fn replay(rt: &impl Print, file: &[u8], tally: &mut Tally) -> io::Result<()> {
+    let Some(n) = cases_in(file) else {
+        return tally.damaged_file(rt);
+    };
+    for (k, row) in file[HEAD_BYTES..]
+        .chunks_exact(ROW_BYTES)
+        .take(n)
+        .enumerate()
+    {
+        tally.count(rt, k, replayed(file, row_of(row)))?;
     }
     Ok(())
 }
 
 fn main(rt: HostRuntime) -> io::Result<()> {
     let mut file = file_room();
-    let mut counts = [0u32; COUNTS];
-    let n = read_input(&mut rt.stdin(), &mut file).count()?;
-    replay(&rt, &file[..n], &mut counts)?;
-    print_counts(&rt, &counts)
+    let mut tally = Tally::new();
+    let n = read_input(&mut rt.stdin(), &mut file)?;
+    replay(&rt, &file[..n], &mut tally)?;
+    tally.print(&rt)
 }

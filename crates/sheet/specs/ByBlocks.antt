@@ -1,14 +1,11 @@
--- A search over the instructions of a sheet in shape, one block a turn: any test of an instruction. Assumes nothing.
-use Rattle.std.specs.Prelude.{Bool, ◌≡◌, ◌⊎◌, List, ℕ, ◌+◌, ◌-◌, ◌*◌, ◌≤◌, ◌<◌, take, drop}
-use Rattle.std.proofs.Common.{sym, ap, ap₂, ◌∙◌, inl, inr, arith}
-use Rattle.std.proofs.Math.Option.{none}
+-- A search over the instructions of a sheet in shape, block by block: any test of an instruction. Assumes nothing.
+use Rattle.std.specs.Prelude.{Bool, Option, true, false, ◌≡◌, ◌⊎◌, List, ℕ, ◌+◌, ◌-◌, ◌*◌, ◌≤◌, ◌<◌, take, drop, None, Some}
+use Rattle.std.proofs.Common.{sym, ap, ap₂, ◌∙◌, inl, inr, arith, ltb, ltb-true}
+use Rattle.std.proofs.lemmas.Bool.{ltb-false}
+use Rattle.base.specs.ListLaws.{by_test}
 use Rattle.base.specs.Sizes.{records_from, record_bytes, block_records}
 use Rattle.base.specs.Lists.{first_bad}
-use Rattle.base.specs.SearchLaws.{bad_pass, bad_here, bad_same}
-use Rattle.base.specs.Refusals.{found_of}
-use Rattle.base.specs.RefusalLaws.{found_at, found_none}
-use Rattle.base.specs.declared.Found.{Found}
-use Rattle.base.specs.declared.Found.TheVariants.{At, Nothing}
+use Rattle.base.specs.SearchLaws.{all_none, first_is, bad_pass, bad_here, bad_same}
 use Rattle.stackless_bytecode.specs.declared.Bytecode.{Bytecode}
 use Rattle.stackless_bytecode.specs.Kinds.{at}
 use Rattle.sheet.specs.Layout.{decode, instruction_at, code_of}
@@ -20,6 +17,35 @@ pub record_is : (p : List ℕ) (from k a : ℕ) → a ≡ records_from + record_
 record_is p from k a e =
     let size : a + record_bytes - a ≡ record_bytes = omega arith in
     ap₂ (λ (m x : ℕ). take m (drop x p)) size e
+
+-- what a search for the first of the places from `from` on and below `to` at which the test fails found
+abbrev pub Finds : ℕ → ℕ → (ℕ → Bool) → Option ℕ → Type 0
+Finds from to ok None = (j : ℕ) → from ≤ j → j < to → ok j ≡ true
+Finds from to ok (Some k) = (from ≤ k) × (k < to) × ((j : ℕ) → from ≤ j → j < k → ok j ≡ true) × (ok k ≡ false)
+
+pub finds_first : (n : ℕ) (ok : ℕ → Bool) (r : Option ℕ) → Finds 0 n ok r → r ≡ first_bad n 0 ok
+finds_first n ok None f = sym (all_none n 0 ok (λ j l h. f j l (omega arith)))
+finds_first n ok (Some k) f = sym (first_is n 0 k ok f.0 (omega (arith, f.1)) f.2 f.3)
+
+-- the search goes on from place `from`: the test holds before it, and `seen` is the test at the places from there on and below `to`
+module _ (from to : ℕ) (ok seen : ℕ → Bool) (same : (k : ℕ) → from ≤ k → k < to → seen k ≡ ok k) (before : (j : ℕ) → j < from → ok j ≡ true) where
+  up_to : (k : ℕ) → k ≤ to → ((j : ℕ) → from ≤ j → j < k → seen j ≡ true) → (j : ℕ) → j < k → ok j ≡ true
+  up_to k l f j h =
+      by_test (λ _. ok j ≡ true) (ltb j from) (λ t. before j (ltb-true _ _ t))
+      (λ t. let low : from ≤ j = ltb-false _ _ t in sym (same j low (omega arith)) ∙ f j low h)
+
+  pub found_on : (n k : ℕ) → to ≤ n → Finds from to seen (Some k) → Some k ≡ first_bad n 0 ok
+  found_on n k l f = finds_first n ok (Some k) (omega arith, omega (arith, f.1), (λ j _ h. up_to k (omega (arith, f.1)) f.2 j h), sym (same k f.0 f.1) ∙ f.3)
+
+  pub none_on : Finds from to seen None → (j : ℕ) → j < to → ok j ≡ true
+  none_on f = up_to to (omega arith) f
+
+-- a block's records are those of the code
+pub block_record : {s : List ℕ} {n : ℕ} → Shaped s n → (b k : ℕ) → block_records * b ≤ k → k < block_records * b + block_records → k < n → decode (record_in (handed s b) (block_records * b) k) ≡ at (code_of s) k
+unfolding instruction_at
+block_record {s} shaped b k l h inside = ap decode (record_in_lem s b k l h) ∙ sym (code_at shaped k inside)
+
+-- ---- the search by `first_bad`, block by block
 
 -- m is how many of those that are left stand in one block
 abbrev pub OneBlock : ℕ → ℕ → Type 0
@@ -33,40 +59,31 @@ pub few_left : {m left : ℕ} → OneBlock left m → m ≤ left
 few_left (inl (e, l)) = omega arith
 few_left (inr (e, l)) = omega arith
 
-module _ {s : List ℕ} {n : ℕ} (shaped : Shaped s n) (b m from : ℕ) (begin : from ≡ block_records * b) (few : OneBlock (n - from) m) (inside : from < n) where
-  -- a block's records are those of the code
-  pub block_record : (k : ℕ) → from ≤ k → k < from + m → decode (record_in (handed s b) from k) ≡ at (code_of s) k
-  unfolding instruction_at
-  block_record k l h =
-      ap (λ (x : ℕ). decode (record_in (handed s b) x k)) begin ∙ ap decode (record_in_lem s b k (omega arith) (omega (arith, few_records few)))
-      ∙ sym (code_at shaped k (omega (arith, few_left few)))
+module _ {s : List ℕ} {n : ℕ} (shaped : Shaped s n) (b m from : ℕ) (begin : from ≡ block_records * b) (few : OneBlock (n - from) m) (inside : from < n) (ok : Bytecode → Bool) where
+  block_is : first_bad m from (λ k. ok (decode (record_in (handed s b) from k))) ≡ first_bad m from (λ k. ok (at (code_of s) k))
+  block_is = bad_same m from _ _ (λ k l h. ap (λ (x : ℕ). ok (decode (record_in (handed s b) x k))) begin ∙ ap ok (block_record shaped b k (omega arith) (omega (arith, few_records few)) (omega (arith, few_left few))))
 
-  module _ (ok : Bytecode → Bool) where
-    block_is : (found : Found) → found ≡ found_of (first_bad m from (λ k. ok (decode (record_in (handed s b) from k)))) → found ≡ found_of (first_bad m from (λ k. ok (at (code_of s) k)))
-    block_is found f = f ∙ ap found_of (bad_same m from _ _ (λ k l h. ap ok (block_record k l h)))
+  -- nothing is found in it: the search goes on behind it
+  pub pass_block : first_bad m from (λ k. ok (decode (record_in (handed s b) from k))) ≡ None
+      → first_bad (n - from) from (λ k. ok (at (code_of s) k)) ≡ first_bad (n - (from + block_records)) (from + block_records) (λ k. ok (at (code_of s) k))
+  unfolding first_bad
+  pass_block f = go few
+    where
+      clear : first_bad m from (λ k. ok (at (code_of s) k)) ≡ None
+      clear = sym block_is ∙ f
 
-    -- nothing is found in it: the search goes on behind it
-    pub pass_block : (found : Found) → found ≡ found_of (first_bad m from (λ k. ok (decode (record_in (handed s b) from k)))) → found ≡ Nothing
-        → first_bad (n - from) from (λ k. ok (at (code_of s) k)) ≡ first_bad (n - (from + block_records)) (from + block_records) (λ k. ok (at (code_of s) k))
-    unfolding first_bad
-    pass_block found f t = go few
-      where
-        clear : first_bad m from (λ k. ok (at (code_of s) k)) ≡ none
-        clear = found_none _ (sym t ∙ block_is found f)
+      go : OneBlock (n - from) m → first_bad (n - from) from (λ k. ok (at (code_of s) k)) ≡ first_bad (n - (from + block_records)) (from + block_records) (λ k. ok (at (code_of s) k))
+      go (inl (e, l)) =
+          let rest : 0 ≡ n - (from + block_records) = omega arith in
+          ap (λ (x : ℕ). first_bad x from (λ k. ok (at (code_of s) k))) (sym e) ∙ clear ∙ ap (λ (x : ℕ). first_bad x (from + block_records) (λ k. ok (at (code_of s) k))) rest
+      go (inr (e, l)) =
+          let size : n - from ≡ m + (n - (from + block_records)) = omega arith in
+          let next : from + m ≡ from + block_records = omega arith in
+          ap (λ (x : ℕ). first_bad x from (λ k. ok (at (code_of s) k))) size ∙ bad_pass m (n - (from + block_records)) from _ clear
+          ∙ ap (λ (x : ℕ). first_bad (n - (from + block_records)) x (λ k. ok (at (code_of s) k))) next
 
-        go : OneBlock (n - from) m → first_bad (n - from) from (λ k. ok (at (code_of s) k)) ≡ first_bad (n - (from + block_records)) (from + block_records) (λ k. ok (at (code_of s) k))
-        go (inl (e, l)) =
-            let rest : 0 ≡ n - (from + block_records) = omega arith in
-            ap (λ (x : ℕ). first_bad x from (λ k. ok (at (code_of s) k))) (sym e) ∙ clear ∙ ap (λ (x : ℕ). first_bad x (from + block_records) (λ k. ok (at (code_of s) k))) rest
-        go (inr (e, l)) =
-            let size : n - from ≡ m + (n - (from + block_records)) = omega arith in
-            let next : from + m ≡ from + block_records = omega arith in
-            ap (λ (x : ℕ). first_bad x from (λ k. ok (at (code_of s) k))) size ∙ bad_pass m (n - (from + block_records)) from _ clear
-            ∙ ap (λ (x : ℕ). first_bad (n - (from + block_records)) x (λ k. ok (at (code_of s) k))) next
-
-    -- place p is found in it: the search ends there
-    pub stop_block : (p : ℕ) (found : Found) → found ≡ found_of (first_bad m from (λ k. ok (decode (record_in (handed s b) from k)))) → found ≡ At p
-        → found ≡ found_of (first_bad (n - from) from (λ k. ok (at (code_of s) k)))
-    stop_block p found f t =
-        let size : n - from ≡ m + (n - from - m) = omega (arith, few_left few) in
-        t ∙ sym (ap found_of (ap (λ (x : ℕ). first_bad x from (λ k. ok (at (code_of s) k))) size ∙ bad_here m (n - from - m) from p _ (found_at _ p (sym t ∙ block_is found f))))
+  -- place p is found in it: the search ends there
+  pub stop_block : (p : ℕ) → first_bad m from (λ k. ok (decode (record_in (handed s b) from k))) ≡ Some p → first_bad (n - from) from (λ k. ok (at (code_of s) k)) ≡ Some p
+  stop_block p f =
+      let size : n - from ≡ m + (n - from - m) = omega (arith, few_left few) in
+      ap (λ (x : ℕ). first_bad x from (λ k. ok (at (code_of s) k))) size ∙ bad_here m (n - from - m) from p _ (sym block_is ∙ f)

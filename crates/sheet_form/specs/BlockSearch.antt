@@ -1,5 +1,5 @@
 -- Check 4 block by block: the records of one block, and the search of fifteen places, then of those behind. Assumes nothing.
-use Rattle.std.specs.Prelude.{◌≡◌, refl, Bool, false, cond, ◌&&◌, List, [], ◌∷◌, ℕ, ◌+◌, ◌-◌, ◌*◌, ◌≤◌, ◌<◌, ltb, get_or, length, take, drop}
+use Rattle.std.specs.Prelude.{◌≡◌, refl, Bool, false, cond, ◌&&◌, List, [], ◌∷◌, ℕ, ◌+◌, ◌-◌, ◌*◌, ◌≤◌, ◌<◌, ltb, get_or, length, take, drop, Option, None, Some}
 use Rattle.std.proofs.Common.{sym, ap, ◌∙◌, arith, le-ltb, ne_eqb, get_or-take, get_or-drop}
 use Rattle.std.proofs.Math.Nat.{add-sub_cancel_left}
 use Rattle.base.specs.Sizes.{records_from, record_bytes, block_records}
@@ -11,10 +11,6 @@ use Rattle.sheet.specs.Layout.{count_of, decode}
 use Rattle.sheet.specs.InBlock.{record_in, handed, record_in_lem}
 use Rattle.sheet.specs.Checks.{shapes, no_shape, shape_of, fits, record_ok, place_ok}
 use Rattle.sheet.specs.declared.Shape.{Shape}
-use Rattle.base.specs.Refusals.{found_of}
-use Rattle.base.specs.RefusalLaws.{found_at, found_none}
-use Rattle.base.specs.declared.Found.{Found}
-use Rattle.base.specs.declared.Found.TheVariants.{At, Nothing}
 
 -- whether the record of place k in the block with bytes p is right: `place_ok` of the sheet
 unfoldable pub in_block : List ℕ → ℕ → ℕ → ℕ → Bool
@@ -26,34 +22,35 @@ pub place_in : (p : List ℕ) (from n k a : ℕ) (b : Bool) → a ≡ records_fr
 unfolding in_block
 place_in p from n k a b start e = sym (e ∙ rw (add-sub_cancel_left, start) refl)
 
+-- the places of a block that the code hands on are those of the sheet
+pub place_handed : (s : List ℕ) (n b k : ℕ) → n ≡ count_of s → block_records * b ≤ k → k < block_records * b + block_records → place_ok s k ≡ in_block (handed s b) (block_records * b) n k
+unfolding in_block place_ok
+place_handed s n b k e l h = rw (record_in_lem s b k l h, e) refl
+
 -- ---- one turn of the search by blocks
 
 handed_places : (s : List ℕ) (n b : ℕ) → n ≡ count_of s → first_bad block_records (block_records * b) (place_ok s) ≡ first_bad block_records (block_records * b) (in_block (handed s b) (block_records * b) n)
-unfolding in_block place_ok
-handed_places s n b e =
-    bad_same block_records (block_records * b) _ _
-    (λ k l h. rw (record_in_lem s b k l h, e) refl)
+handed_places s n b e = bad_same block_records (block_records * b) _ _ (λ k l h. place_handed s n b k e l h)
 
 -- nothing is found in block b: the search goes on behind it
-pub pass_block : (s : List ℕ) (n blocks b : ℕ) (found : Found) → n ≡ count_of s → b < blocks
-    → found ≡ found_of (first_bad block_records (block_records * b) (in_block (handed s b) (block_records * b) n)) → found ≡ Nothing
+pub pass_block : (s : List ℕ) (n blocks b : ℕ) → n ≡ count_of s → b < blocks
+    → first_bad block_records (block_records * b) (in_block (handed s b) (block_records * b) n) ≡ None
     → first_bad (block_records * (blocks - b)) (block_records * b) (place_ok s) ≡ first_bad (block_records * (blocks - (b + 1))) (block_records * (b + 1)) (place_ok s)
-pass_block s n blocks b found e h f t =
+pass_block s n blocks b e h f =
     let size : block_records * (blocks - b) ≡ block_records + block_records * (blocks - (b + 1)) = omega arith in
     let next : block_records * b + block_records ≡ block_records * (b + 1) = omega arith in
     ap (λ (m : ℕ). first_bad m (block_records * b) (place_ok s)) size
-    ∙ bad_pass block_records (block_records * (blocks - (b + 1))) (block_records * b) (place_ok s) (handed_places s n b e ∙ found_none _ (sym t ∙ f))
+    ∙ bad_pass block_records (block_records * (blocks - (b + 1))) (block_records * b) (place_ok s) (handed_places s n b e ∙ f)
     ∙ ap (λ (k : ℕ). first_bad (block_records * (blocks - (b + 1))) k (place_ok s)) next
 
 -- place p is found in block b: the search ends there
-pub stop_block : (s : List ℕ) (n blocks b p : ℕ) (found : Found) → n ≡ count_of s → b < blocks
-    → found ≡ found_of (first_bad block_records (block_records * b) (in_block (handed s b) (block_records * b) n)) → found ≡ At p
-    → found ≡ found_of (first_bad (block_records * (blocks - b)) (block_records * b) (place_ok s))
-stop_block s n blocks b p found e h f t =
+pub stop_block : (s : List ℕ) (n blocks b p : ℕ) → n ≡ count_of s → b < blocks
+    → first_bad block_records (block_records * b) (in_block (handed s b) (block_records * b) n) ≡ Some p
+    → first_bad (block_records * (blocks - b)) (block_records * b) (place_ok s) ≡ Some p
+stop_block s n blocks b p e h f =
     let size : block_records * (blocks - b) ≡ block_records + block_records * (blocks - (b + 1)) = omega arith in
-    t
-    ∙ sym (ap found_of (ap (λ (m : ℕ). first_bad m (block_records * b) (place_ok s)) size
-    ∙ bad_here block_records (block_records * (blocks - (b + 1))) (block_records * b) p (place_ok s) (handed_places s n b e ∙ found_at _ p (sym t ∙ f))))
+    ap (λ (m : ℕ). first_bad m (block_records * b) (place_ok s)) size
+    ∙ bad_here block_records (block_records * (blocks - (b + 1))) (block_records * b) p (place_ok s) (handed_places s n b e ∙ f)
 
 -- ---- the row of a record's kind
 
@@ -73,7 +70,6 @@ no_record q h =
     ap (λ (f : Shape). fits f (decode q)) (get_d_past shapes (get_or q 0 0) no_shape h) ∙ rw (le-ltb (decode q).sub 0 (omega arith)) refl
 
 no_zeros : (q : List ℕ) → length shapes ≤ get_or q 0 0 → zeros q ≡ false
-unfolding zeros
 no_zeros [] h = absurd (omega arith)
 no_zeros (x ∷ xs) h = ap (λ (b : Bool). b && zeros xs) (ne_eqb x 0 (λ e. omega arith))
 

@@ -1,19 +1,19 @@
 // Checks 1 to 3: the length, the blocks and the heading. A block is handed on as the part of the sheet that it is. Assumes nothing.
-ghost use Rattle.std.specs.Prelude.{◌≡◌, ◌+◌, ◌-◌, ◌*◌, ◌/◌, ◌%◌, ◌^◌, ◌<◌, ◌≤◌, ltb, length};
+ghost use Rattle.std.specs.Prelude.{◌≡◌, ◌*◌, ◌/◌, ◌%◌, ◌^◌, ◌<◌, ◌≤◌, ltb, length, IfSome};
 ghost use Rattle.base.specs.Sizes.{block_bytes, max_number};
 ghost use Rattle.base.specs.Lists.{sum, first_bad};
 ghost use Rattle.base.specs.Bytes.{number};
-ghost use Rattle.base.specs.Refusals.{found_of};
 ghost use Rattle.sheet.specs.Layout.{block_at, record_blocks};
 ghost use Rattle.sheet.specs.Checks.{length_ok, block_ok, heading_ok};
 
 use base::{
-    BLOCK_BYTES, BLOCK_RECORDS, Found, MAX_BYTES, MAX_INSTRUCTIONS, MAX_LOCALS, RECORDS_FROM,
-    REFS_AT, REFS_END,
+    BLOCK_BYTES, BLOCK_RECORDS, MAX_BYTES, MAX_INSTRUCTIONS, MAX_LOCALS, RECORDS_FROM, REFS_AT,
+    REFS_END,
 };
 use sheet::reader::{all_zero, u16_at};
 
 // Check 1: whole blocks, at least two, and no more than the longest sheet has.
+#[tactic(auto, unfolding(sheet::specs::Checks::length_ok))]
 pub fn length_ok(n: usize) -> bool
     ensures { result ≡ length_ok n }
 {
@@ -25,13 +25,11 @@ pub fn total(s: &[u8]) -> usize
     requires { length s.now ≤ 65536 }
     ensures { (result ≡ sum s.now) × (result ≤ 255 * length s.now) }
 {
-    let mut t: usize = 0;
-    let mut i = 0;
-    while i < s.len() {
-        t += s[i] as usize;
-        i += 1;
+    let mut total = 0;
+    for &x in s {
+        total += usize::from(x);
     }
-    t
+    total
 }
 
 // Check 2 of one block: its number, its check, and zeros before the records of a later one.
@@ -39,28 +37,27 @@ pub fn block_ok(p: &[u8], b: usize) -> bool
     requires { length p.now ≡ block_bytes }
     ensures { result ≡ block_ok p.now b }
 {
-    let number = u16_at(p, 0) as usize;
-    let check = u16_at(p, 2) as usize;
+    let number = usize::from(u16_at(p, 0));
+    let check = usize::from(u16_at(p, 2));
     let t = total(&p[0..2]) + total(&p[4..BLOCK_BYTES]);
     let clear = all_zero(&p[4..RECORDS_FROM]);
     (number == b) & (check == t % 65536) & ((b == 0) | clear)
 }
 
 // Check 2: the first block that is wrong.
-pub fn first_bad_block(s: &[u8]) -> Found
+#[tactic(auto, using(base::specs::SearchLaws::all_none))]
+pub fn first_bad_block(s: &[u8]) -> Option<usize>
     requires { length s.now % block_bytes ≡ 0 }
-    ensures { result ≡ found_of (first_bad (length s.now / block_bytes) 0 (λ b. block_ok (block_at s.now b) b)) }
+    ensures first { result ≡ first_bad (length s.now / block_bytes) 0 (λ b. block_ok (block_at s.now b) b) }
+    ensures within { IfSome result (λ b. b < length s.now / block_bytes) }
 {
-    let n = s.len() / BLOCK_BYTES;
-    let mut b = 0;
-    while b < n {
+    for b in 0..s.len() / BLOCK_BYTES {
         let at = BLOCK_BYTES * b;
         if !block_ok(&s[at..at + BLOCK_BYTES], b) {
-            return Found::At(b);
+            return Some(b);
         }
-        b += 1;
     }
-    Found::Nothing
+    None
 }
 
 // Whether a byte has no bit at or above l.
@@ -73,28 +70,16 @@ fn byte_below(x: u8, l: usize) -> bool
     x >> l == 0
 }
 
-// What is left of l bits behind one byte.
-fn behind(l: usize) -> usize
-    ensures { result ≡ l - 8 }
-{
-    if l < 8 {
-        return 0;
-    }
-    l - 8
-}
-
 // Whether the number in the bytes has no bit at or above l.
 fn mask_below(p: &[u8], l: usize) -> bool
     ensures { result ≡ ltb (number p.now) (2 ^ l) }
 {
     let mut rest = l;
-    let mut i = 0;
-    while i < p.len() {
-        if !byte_below(p[i], rest) {
+    for &x in p {
+        if !byte_below(x, rest) {
             return false;
         }
-        rest = behind(rest);
-        i += 1;
+        rest = rest.saturating_sub(8);
     }
     true
 }
@@ -104,7 +89,7 @@ pub fn record_blocks(n: usize) -> usize
     requires { n ≤ max_number }
     ensures { (result ≡ record_blocks n) × (result ≤ n) }
 {
-    (n + (BLOCK_RECORDS - 1)) / BLOCK_RECORDS
+    n.div_ceil(BLOCK_RECORDS)
 }
 
 // Check 3: the heading, and as many blocks as its instructions need.
@@ -112,10 +97,10 @@ pub fn heading_ok(s: &[u8]) -> bool
     requires { 2 * block_bytes ≤ length s.now }
     ensures { result ≡ heading_ok s.now }
 {
-    let n = u16_at(s, 4) as usize;
-    let locals = u16_at(s, 6) as usize;
-    let users = u16_at(s, 8) as usize;
-    let parameters = u16_at(s, 10) as usize;
+    let n = usize::from(u16_at(s, 4));
+    let locals = usize::from(u16_at(s, 6));
+    let users = usize::from(u16_at(s, 8));
+    let parameters = usize::from(u16_at(s, 10));
     let clear = all_zero(&s[12..REFS_AT]);
     let refs = mask_below(&s[REFS_AT..REFS_END], locals);
     let rest = all_zero(&s[REFS_END..BLOCK_BYTES]);

@@ -1,16 +1,15 @@
 // Check 4: each record against the table of kinds. A block is handed on as the part of the sheet that it is, a record as the part of its block. Assumes nothing.
-ghost use Rattle.std.specs.Prelude.{◌≡◌, cond, ◌+◌, ◌*◌, ◌≤◌, get_or, length, drop};
+ghost use Rattle.std.specs.Prelude.{◌≡◌, cond, ◌+◌, ◌*◌, ◌<◌, ◌≤◌, get_or, length, drop, IfSome};
 ghost use Rattle.base.specs.Sizes.{block_bytes, record_bytes, block_records, max_instructions};
 ghost use Rattle.base.specs.Lists.{zeros, first_bad};
-ghost use Rattle.base.specs.Bytes.{Bytes, number};
-ghost use Rattle.base.specs.Refusals.{found_of};
+ghost use Rattle.base.specs.Bytes.{number};
 ghost use Rattle.sheet.specs.Layout.{count_of, record_blocks, decode};
 ghost use Rattle.sheet.specs.Checks.{shape, shapes, shape_of, fits, record_ok, place_ok};
+ghost use Rattle.sheet.specs.ByBlocks.{Finds};
 ghost use Rattle.sheet_form.specs.BlockSearch.{in_block};
 
 use crate::blocks::record_blocks;
-use base::width::{u8_to_u64, u8_to_usize};
-use base::{BLOCK_BYTES, BLOCK_RECORDS, Found, LIST_PLACES, RECORD_BYTES, RECORDS_FROM};
+use base::{BLOCK_BYTES, BLOCK_RECORDS, LIST_PLACES, RECORD_BYTES, RECORDS_FROM};
 use sheet::Shape;
 use sheet::reader::{all_zero, decode};
 use stackless_bytecode::Bytecode;
@@ -102,28 +101,14 @@ fn rows() -> [Shape; KINDS]
     ]
 }
 
-// The number in the places of a list, the first lowest: the compiler makes one load of it.
-fn number_of(list: [u8; LIST_PLACES]) -> u64
-    ensures { (result ≡ number list) × Bytes list }
-{
-    u8_to_u64(list[0])
-        + 256 * u8_to_u64(list[1])
-        + 65536 * u8_to_u64(list[2])
-        + 16777216 * u8_to_u64(list[3])
-        + 4294967296 * u8_to_u64(list[4])
-        + 1099511627776 * u8_to_u64(list[5])
-        + 281474976710656 * u8_to_u64(list[6])
-        + 72057594037927936 * u8_to_u64(list[7])
-}
-
 // Whether each place from n on is 0: the n places before it are shifted out.
-fn zero_from(list: [u8; LIST_PLACES], n: u8) -> bool
-    ensures { result ≡ zeros (drop n list) }
+fn zero_from(list: &[u8; LIST_PLACES], n: u8) -> bool
+    ensures { result ≡ zeros (drop n list.now) }
 {
     if n >= MOST {
         return true;
     }
-    number_of(list) >> (8 * n) == 0
+    u64::from_le_bytes(*list) >> (8 * n) == 0
 }
 
 // Whether a record keeps to a row: what it does not use is 0, and so is each list place past its count.
@@ -147,9 +132,7 @@ pub fn fits(f: Shape, r: Bytecode) -> bool
     if !unused {
         return false;
     }
-    let dsts = r.dsts;
-    let srcs = r.srcs;
-    zero_from(dsts, r.ndst) & zero_from(srcs, r.nsrc)
+    zero_from(&r.dsts, r.ndst) & zero_from(&r.srcs, r.nsrc)
 }
 
 // A record's part, with the row of its kind: an instruction where it is used, else zeros.
@@ -164,42 +147,35 @@ fn place_ok(f: Shape, p: &[u8], used: bool) -> bool
 }
 
 // The first wrong record of one block, whose first has place `from`. What starts with no kind is neither an instruction nor zeros.
-fn first_bad_in(p: &[u8], from: usize, n: usize) -> Found
+fn first_bad_in(p: &[u8], from: usize, n: usize) -> Option<usize>
     requires { (length p.now ≡ block_bytes) × (from ≤ 2 * max_instructions) }
-    ensures { result ≡ found_of (first_bad block_records from (in_block p.now from n)) }
+    ensures { Finds from (from + block_records) (in_block p.now from n) result }
 {
     let table = rows();
-    let end = from + BLOCK_RECORDS;
-    let mut k = from;
-    while k < end {
-        let a = RECORDS_FROM + RECORD_BYTES * (k - from);
-        let e = a + RECORD_BYTES;
-        let kind = u8_to_usize(p[a]);
+    for k in from..from + BLOCK_RECORDS {
+        let at = RECORDS_FROM + RECORD_BYTES * (k - from);
+        let kind = usize::from(p[at]);
         if kind >= KINDS {
-            return Found::At(k);
+            return Some(k);
         }
-        if !place_ok(table[kind], &p[a..e], k < n) {
-            return Found::At(k);
+        if !place_ok(table[kind], &p[at..at + RECORD_BYTES], k < n) {
+            return Some(k);
         }
-        k += 1;
     }
-    Found::Nothing
+    None
 }
 
 // Check 4: the first record that breaks the table, or past n is not zero. It goes block by block, so that no place is divided by 15.
-pub fn first_bad_record(s: &[u8], n: usize) -> Found
+pub fn first_bad_record(s: &[u8], n: usize) -> Option<usize>
     requires { (n ≡ count_of s.now) × (n ≤ max_instructions) × (length s.now ≡ block_bytes * (1 + record_blocks n)) }
-    ensures { result ≡ found_of (first_bad (block_records * record_blocks n) 0 (place_ok s.now)) }
+    ensures first { result ≡ first_bad (block_records * record_blocks n) 0 (place_ok s.now) }
+    ensures within { IfSome result (λ k. k < block_records * record_blocks n) }
 {
-    let blocks = record_blocks(n);
-    let mut b = 0;
-    while b < blocks {
+    for b in 0..record_blocks(n) {
         let at = BLOCK_BYTES * (1 + b);
-        let found = first_bad_in(&s[at..at + BLOCK_BYTES], BLOCK_RECORDS * b, n);
-        let Found::Nothing = found else {
-            return found;
-        };
-        b += 1;
+        if let Some(k) = first_bad_in(&s[at..at + BLOCK_BYTES], BLOCK_RECORDS * b, n) {
+            return Some(k);
+        }
     }
-    Found::Nothing
+    None
 }

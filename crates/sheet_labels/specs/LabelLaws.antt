@@ -1,7 +1,6 @@
 -- Checks 6 and 7 one instruction, one label a turn. Assumes nothing.
-use Rattle.std.specs.Prelude.{◌≡◌, refl, Bool, true, false, cond, ◌||◌, ℕ, ◌+◌, ◌-◌, ◌/◌, ◌%◌, ◌^◌, ◌≤◌, ◌<◌, eqb, get_or, set, take, length, replicate, not, List, [], ◌∷◌, ◌++◌}
+use Rattle.std.specs.Prelude.{◌≡◌, refl, Bool, true, false, cond, ◌||◌, ℕ, ◌+◌, ◌-◌, ◌/◌, ◌%◌, ◌^◌, ◌≤◌, ◌<◌, eqb, get_or, set, take, length, replicate, not, List, [], ◌∷◌, ◌++◌, Some, Result, Ok, Err}
 use Rattle.std.proofs.Common.{sym, ap, ap₂, ◌∙◌, subst, add-one, arith, eq-eqb, ne_eqb, length-set, take-suc-set, take_all, get_or-set_same, get_or-set_other, append-nil}
-use Rattle.std.proofs.Math.Option.{some}
 use Rattle.std.proofs.lemmas.List.{length-replicate}
 use Rattle.base.specs.Lists.{any, gather, has, keep, first_bad}
 use Rattle.base.specs.GrowLaws.{gather_more, keep_snoc}
@@ -15,13 +14,11 @@ use Rattle.stackless_bytecode.specs.Kinds.{Label, nop, at, label_of}
 use Rattle.stackless_bytecode.specs.KindLaws.{one_label, other_label}
 use Rattle.stackless_bytecode.specs.Slots.{label_places}
 use Rattle.sheet.specs.Checks.{fresh}
-use Rattle.sheet_labels.specs.declared.labels.Labels.TheVariants.{Count, Repeated}
 use Rattle.sheet_labels.specs.Labelled.{seen_words, SeenBits, LabelLists, LabelsOf}
 
 -- ---- the bitmap
 
 pub seen_none : (w : ℕ) → SeenBits (replicate w 0) []
-unfolding has
 seen_none w = record { each = λ l h. ap (λ (x : ℕ). holds x (l % 64)) (copies_at w (l / 64) 0) ∙ false_holds 0 (l % 64) (bit_empty (l % 64)) }
 
 or_end : (b : Bool) → b || false ≡ b
@@ -29,7 +26,6 @@ or_end true = refl
 or_end false = refl
 
 has_snoc : (x l : ℕ) (xs : List ℕ) → has x (xs ++ (l ∷ [])) ≡ has x xs || eqb x l
-unfolding has
 has_snoc x l [] = or_end (eqb x l)
 has_snoc x l (y ∷ ys) = ap (λ (b : Bool). eqb x y || b) (has_snoc x l ys) ∙ or_assoc (eqb x y) (has x ys) (eqb x l)
   where
@@ -91,7 +87,7 @@ pub record Noted (code : List Bytecode) (k m : ℕ) (seen labels places : List �
   pub offsets : take m places ≡ places_to code k
 
 pub noted_none : (code : List Bytecode) (labels places : List ℕ) → Noted code 0 0 (replicate seen_words 0) labels places
-unfolding gather keep
+unfolding keep
 noted_none code labels places = record { few = omega arith; seen_size = length-replicate {A = ℕ} seen_words 0; numbers = seen_none seen_words; names = refl; offsets = refl }
 
 module _ {code : List Bytecode} {k m : ℕ} {seen labels places : List ℕ} (h : Noted code k m seen labels places) (inside : k < length code) where
@@ -122,11 +118,11 @@ module _ {code : List Bytecode} {k m : ℕ} {seen labels places : List ℕ} (h :
 
   -- the bitmap decides whether the next Label is fresh
   pub fresh_other : eqb (at code k).kind Label ≡ false → fresh code k ≡ true
-  unfolding fresh any
+  unfolding fresh
   fresh_other e = ap (λ (xs : List ℕ). not (any (λ l. has l (gather label_of (take k code))) xs)) (other_label (at code k) e)
 
   pub fresh_label : eqb (at code k).kind Label ≡ true → (l : ℕ) → l ≡ (at code k).one → l < 65536 → fresh code k ≡ not (holds (get_or seen (l / 64) 0) (l % 64))
-  unfolding fresh any
+  unfolding fresh
   fresh_label e l is small =
       ap (λ (xs : List ℕ). not (any (λ l. has l (gather label_of (take k code))) xs)) (one_label (at code k) e ∙ ap (λ (x : ℕ). x ∷ []) (sym is))
       ∙ ap not (or_end (has l (gather label_of (take k code))) ∙ sym (h.numbers.each l small))
@@ -174,7 +170,7 @@ module _ {code : List Bytecode} {n : ℕ} {seen₀ labels₀ places₀ : List �
       })
 
   module _ (e : eqb (at code k).kind Label ≡ true) (l : ℕ) (is : l ≡ (at code k).one) (small : l < 65536) where
-    pub pass_stop : holds (get_or seen (l / 64) 0) (l % 64) ≡ true → first_bad n 0 (fresh code) ≡ some k
+    pub pass_stop : holds (get_or seen (l / 64) 0) (l % 64) ≡ true → first_bad n 0 (fresh code) ≡ Some k
     pass_stop t = p.first ∙ bad_stop n k (fresh code) inside (fresh_label p.noted (omega arith) e l is small ∙ ap not t)
 
     pub pass_more : {m' : ℕ} {seen' labels' places' : List ℕ} → holds (get_or seen (l / 64) 0) (l % 64) ≡ false → n ≤ length labels₀ → n ≤ length places₀
@@ -193,18 +189,18 @@ module _ {code : List Bytecode} {n : ℕ} {seen₀ labels₀ places₀ : List �
 
 -- ---- the answer
 
-pub labels_repeated : {code : List Bytecode} {n k : ℕ} {labels places : List ℕ} → length code ≡ n → first_bad n 0 (fresh code) ≡ some k → LabelsOf code (Repeated k) labels places
+pub labels_repeated : {code : List Bytecode} {n k : ℕ} {labels places : List ℕ} → length code ≡ n → first_bad n 0 (fresh code) ≡ Some k → LabelsOf code (Err k) labels places
 labels_repeated {code} {n} {k} size e = record {
   first = sym (ap (λ (x : ℕ). first_bad x 0 (fresh code)) size ∙ e);
   few = λ m q. absurd (never m q);
   listed = λ m q. absurd (never m q);
 }
   where
-    never : (m : ℕ) → Repeated k ≡ Count m → ⊥
+    never : (m : ℕ) → ◌≡◌ {A = Result ℕ ℕ} (Err k) (Ok m) → ⊥
     never m q = let z : ◌≡◌ {A = ℕ} 0 1 = cc in omega arith
 
 pub labels_count : {code : List Bytecode} {n : ℕ} {seen₀ labels₀ places₀ : List ℕ} {k m : ℕ} {seen labels places : List ℕ} → Pass code n seen₀ labels₀ places₀ k m seen labels places
-    → length code ≡ n → n ≤ k → LabelsOf code (Count m) labels places
+    → length code ≡ n → n ≤ k → LabelsOf code (Ok m) labels places
 labels_count {code} {n} {k = k} {m = m} {labels = labels} {places = places} p size end = record {
   first = sym (ap (λ (x : ℕ). first_bad x 0 (fresh code)) size ∙ p.first ∙ bad_end n k (fresh code) end);
   few = λ j q. let s : j ≡ m = cc in omega (arith, p.within, p.noted.few);

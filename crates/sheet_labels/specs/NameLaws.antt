@@ -1,8 +1,7 @@
 -- Check 7: the search for a label, one label a turn, and the search for a missing one, one slot a turn. Assumes nothing.
-use Rattle.std.specs.Prelude.{◌≡◌, refl, Bool, ◌||◌, ℕ, zero, suc, ◌+◌, ◌-◌, ◌*◌, ◌/◌, ◌≤◌, ◌<◌, set, take, length, true, false, cond, List, ◌∷◌, eqb, get_or, drop}
+use Rattle.std.specs.Prelude.{◌≡◌, refl, Bool, ◌||◌, ℕ, zero, suc, ◌+◌, ◌-◌, ◌*◌, ◌/◌, ◌≤◌, ◌<◌, set, take, length, true, false, cond, List, ◌∷◌, eqb, get_or, drop, Some, None}
 use Rattle.std.proofs.Common.{sym, ap₂, ◌∙◌, subst, true≢false, add-one, arith, length-set, drop_of_length-le, get_or-set_same, get_or-set_other, ap, eq-eqb, ne_eqb, drop-cons}
 use mathlib.Core.List.{Memᴰ}
-use Rattle.std.proofs.Math.Option.{some}
 use Rattle.base.specs.Lists.{gather, has, place, first_bad}
 use Rattle.base.specs.ListLaws.{by_eq, or-false, has_in}
 use Rattle.base.specs.SearchLaws.{bad_start, bad_more, bad_stop, bad_end}
@@ -13,8 +12,6 @@ use Rattle.stackless_bytecode.specs.Labels.{lookup, is_defined, label_offset}
 use Rattle.stackless_bytecode.specs.LookupLaws.{is_defined_lem, defined, named_at}
 use Rattle.stackless_bytecode.specs.Slots.{no_label, slot_at, named, halved}
 use Rattle.stackless_bytecode.specs.SlotLaws.{LabelsBelow, slot_names, slots_first, offset_place, places_length}
-use Rattle.base.specs.declared.Found.TheVariants.{At, Nothing}
-use Rattle.base.specs.Refusals.{found_of}
 use Rattle.sheet.specs.Checks.{names_ok}
 use Rattle.sheet_labels.specs.Labelled.{LabelLists, Search, Named}
 
@@ -25,7 +22,7 @@ search_none labels l = record { within = omega arith; rest = refl; at_rest = ome
 
 module _ {labels : List ℕ} {l j : ℕ} (s : Search labels l j) where
   pub search_more : j < length labels → (get_or labels j 0 ≡ l → ⊥) → Search labels l (j + 1)
-  unfolding has place
+  unfolding place
   search_more h g =
       let split : drop j labels ≡ get_or labels j 0 ∷ drop (j + 1) labels = drop-cons labels j 0 h ∙ ap (λ (x : ℕ). get_or labels j 0 ∷ drop x labels) (sym (add-one j)) in
       let differ : eqb l (get_or labels j 0) ≡ false = ne_eqb l (get_or labels j 0) (λ e. g (sym e)) in
@@ -36,18 +33,16 @@ module _ {labels : List ℕ} {l j : ℕ} (s : Search labels l j) where
       }
 
   pub search_found : j < length labels → get_or labels j 0 ≡ l → (has l labels ≡ true) × (place l labels ≡ j)
-  unfolding has place
+  unfolding place
   search_found h e =
       let split = drop-cons labels j 0 h in
       let same : eqb l (get_or labels j 0) ≡ true = eq-eqb l (get_or labels j 0) (sym e) in
       (s.rest ∙ ap (has l) split ∙ ap (λ (b : Bool). b || has l (drop (suc j) labels)) same, omega (arith, s.at_rest, ap (place l) split ∙ ap (λ (b : Bool). cond b 0 (suc (place l (drop (suc j) labels)))) same))
 
   pub search_end : length labels ≤ j → has l labels ≡ false
-  unfolding has
   search_end h = s.rest ∙ ap (has l) (drop_of_length-le labels h)
 
 has_neither : (l x : ℕ) (xs : List ℕ) → has l (x ∷ xs) ≡ false → (eqb l x ≡ false) × (has l xs ≡ false)
-unfolding has
 has_neither l x xs e = or-false (eqb l x) (has l xs) e
 
 -- nor any of the n behind them
@@ -63,7 +58,6 @@ search_part (suc n) {labels} {l} {j} s h e =
 
 -- what is found so far, or stands behind
 pub list_more : (l : ℕ) (p : List ℕ) (i : ℕ) (found : Bool) → i < length p → has l p ≡ found || has l (drop i p) → has l p ≡ (found || eqb l (get_or p i 0)) || has l (drop (i + 1) p)
-unfolding has
 list_more l p i found h e = e ∙ ap (λ (x : List ℕ). found || has l x) (drop-cons p i 0 h) ∙ or_assoc found _ _ ∙ ap (λ (x : ℕ). (found || eqb l (get_or p i 0)) || has l (drop x p)) (sym (add-one i))
   where
     or_assoc : (a b c : Bool) → a || (b || c) ≡ (a || b) || c
@@ -71,7 +65,6 @@ list_more l p i found h e = e ∙ ap (λ (x : List ℕ). found || has l x) (drop
     or_assoc false b c = refl
 
 pub list_end : (l : ℕ) (p : List ℕ) (i : ℕ) (found : Bool) → length p ≤ i → has l p ≡ found || has l (drop i p) → found ≡ has l p
-unfolding has
 list_end l p i found h e = sym (e ∙ ap (λ (x : List ℕ). found || has l x) (drop_of_length-le p h) ∙ or_none found)
   where
     or_none : (a : Bool) → a || false ≡ a
@@ -136,7 +129,7 @@ module _ {code : List Bytecode} {n : ℕ} {targets₀ targets : List ℕ} {e : �
             ∙ named_at code (e / 2) l names.0 names.1 (defined code l (is_defined_lem code l ∙ there)) ∙ ap lookups.Named place_is
             ∙ sym (ap lookups.Named (ap (λ (x : ℕ). get_or (set targets e (get_or places j 0)) x 0) p ∙ get_or-set_same targets e _ 0 room))
 
-    pub slots_missing : has l (gather label_of code) ≡ false → first_bad (2 * n) 0 (λ d. named (λ l. is_defined (lookup code l)) (slot_at code d)) ≡ some e
+    pub slots_missing : has l (gather label_of code) ≡ false → first_bad (2 * n) 0 (λ d. named (λ l. is_defined (lookup code l)) (slot_at code d)) ≡ Some e
     slots_missing q = s.first ∙ bad_stop (2 * n) e _ inside (named_is ∙ q)
 
 pub listed_length : {code : List Bytecode} {labels places : List ℕ} → LabelLists code labels places → length places ≡ length labels
@@ -149,11 +142,11 @@ module _ (code : List Bytecode) (n : ℕ) (below : (k : ℕ) → k < n → Label
   unfolding names_ok
   names_first = slots_first code (λ l. is_defined (lookup code l)) n below
 
-  pub named_missing : {targets : List ℕ} {e : ℕ} → first_bad (2 * n) 0 (λ d. named (λ l. is_defined (lookup code l)) (slot_at code d)) ≡ some e → Named code n (At (e / 2)) targets
-  named_missing q = record { first = sym (ap found_of (names_first ∙ ap halved q)); resolved = λ z. absurd (let y : ◌≡◌ {A = ℕ} 0 1 = cc in omega arith) }
+  pub named_missing : {targets : List ℕ} {e : ℕ} → first_bad (2 * n) 0 (λ d. named (λ l. is_defined (lookup code l)) (slot_at code d)) ≡ Some e → Named code n (Some (e / 2)) targets
+  named_missing q = record { first = sym (names_first ∙ ap halved q); resolved = λ z. absurd (let y : ◌≡◌ {A = ℕ} 0 1 = cc in omega arith) }
 
-  pub named_all : {targets₀ targets : List ℕ} {e : ℕ} → Slots code n targets₀ targets e → length code ≡ n → 2 * n ≤ e → Named code n Nothing targets
+  pub named_all : {targets₀ targets : List ℕ} {e : ℕ} → Slots code n targets₀ targets e → length code ≡ n → 2 * n ≤ e → Named code n None targets
   named_all {e = e} s size end = record {
-    first = sym (ap found_of (names_first ∙ ap halved (s.first ∙ bad_end (2 * n) e _ end)));
+    first = sym (names_first ∙ ap halved (s.first ∙ bad_end (2 * n) e _ end));
     resolved = λ z. record { each = λ d h b. s.each d (omega arith) b };
   }

@@ -7,17 +7,7 @@ ghost use Rattle.sheet.specs.Layout.{code_of};
 ghost use Rattle.sheet.specs.Shaped.{Shaped};
 ghost use Rattle.sheet_labels.specs.Labelled.{seen_words, LabelsOf, LabelLists, Search, Named};
 
-use base::Found;
-use base::width::{u16_to_u32, u16_to_usize};
 use sheet::reader;
-use stackless_bytecode::NO_LABEL;
-
-// What check 6 finds: how many Labels there are, or the first whose number an earlier one has.
-#[derive(Clone, Copy)]
-pub enum Labels {
-    Count(usize),
-    Repeated(usize),
-}
 
 // Words of a bitmap of all label numbers.
 const SEEN_WORDS: usize = 1024;
@@ -35,37 +25,46 @@ fn put_bit(seen: &mut [u64], l: usize)
     requires { (length seen.old ≡ seen_words) × (l < 65536) }
     ensures { seen.new ≡ set seen.old (l / 64) (union (get_or seen.old (l / 64) 0) (2 ^ (l % 64))) }
 {
-    seen[l / 64] = seen[l / 64] | (1u64 << (l % 64));
+    seen[l / 64] |= 1u64 << (l % 64);
 }
 
 // One pass over the instructions, with a bitmap of the numbers that were met.
 // The numbers and the offsets of the Labels go to the fronts of `labels` and `places`.
-fn collect(s: &[u8], n: usize, seen: &mut [u64], labels: &mut [u16], places: &mut [u16]) -> Labels
+fn collect(
+    s: &[u8],
+    n: usize,
+    seen: &mut [u64],
+    labels: &mut [u16],
+    places: &mut [u16],
+) -> Result<usize, usize>
     requires { Shaped s.now n × (seen.old ≡ replicate seen_words 0) × (n ≤ length labels.old) × (n ≤ length places.old) }
     ensures { LabelsOf (code_of s.now) result labels.new places.new }
 {
     let mut m = 0;
-    let mut k = 0;
-    while k < n {
+    for k in 0..n {
         let r = reader::instruction_at(s, k);
         if r.is_label() {
-            let l = u16_to_usize(r.one);
+            let l = usize::from(r.one);
             if has_bit(seen, l) {
-                return Labels::Repeated(k);
+                return Err(k);
             }
             put_bit(seen, l);
             labels[m] = r.one;
             places[m] = k as u16;
             m += 1;
         }
-        k += 1;
     }
-    Labels::Count(m)
+    Ok(m)
 }
 
-// Check 6: the first Label whose number an earlier one has; or how many Labels there are.
+// Check 6: how many Labels there are; or the first whose number an earlier one has.
 // Their numbers and offsets are then at the fronts of `labels` and `places`.
-pub fn list_labels(s: &[u8], n: usize, labels: &mut [u16], places: &mut [u16]) -> Labels
+pub fn list_labels(
+    s: &[u8],
+    n: usize,
+    labels: &mut [u16],
+    places: &mut [u16],
+) -> Result<usize, usize>
     requires { Shaped s.now n × (n ≤ length labels.old) × (n ≤ length places.old) }
     ensures { LabelsOf (code_of s.now) result labels.new places.new }
 {
@@ -81,52 +80,51 @@ fn list_has(p: &[u16], l: u16) -> bool
     ensures { result ≡ has l p.now }
 {
     let mut found = false;
-    let mut i = 0;
-    while i < p.len() {
-        found = found | (l == p[i]);
-        i += 1;
+    for &x in p {
+        found |= l == x;
     }
     found
 }
 
 // How many labels in front, group by group, are not l.
-fn skip(labels: &[u16], l: u32) -> usize
+fn skip(labels: &[u16], l: u16) -> usize
     ensures { Search labels.now l result }
 {
-    if l >= NO_LABEL {
-        return 0;
-    }
-    let x = l as u16;
-    let mut j = 0;
-    while GROUP <= labels.len() - j {
-        if list_has(&labels[j..j + GROUP], x) {
+    let groups = labels.len() / GROUP;
+    for g in 0..groups {
+        let j = GROUP * g;
+        if list_has(&labels[j..j + GROUP], l) {
             return j;
         }
-        j += GROUP;
     }
-    j
+    GROUP * groups
 }
 
-// Check 7: the first instruction that names a label that no Label has.
+// Check 7: the first instruction that names a label that no Label has: a search in a search, broken out of at the first name, as the paper asks by place.
 // If there is none, `targets` has the offset of every slot's label: `labels` and `places` are the numbers and the offsets of the Labels.
-pub fn resolve(s: &[u8], n: usize, labels: &[u16], places: &[u16], targets: &mut [u16]) -> Found
+pub fn resolve(
+    s: &[u8],
+    n: usize,
+    labels: &[u16],
+    places: &[u16],
+    targets: &mut [u16],
+) -> Option<usize>
     requires { Shaped s.now n × LabelLists (code_of s.now) labels.now places.now × (2 * n ≤ length targets.old) }
     ensures { Named (code_of s.now) n result targets.new }
 {
     let mut e = 0;
     'outer: loop {
         if e >= 2 * n {
-            return Found::Nothing;
+            return None;
         }
         let r = reader::instruction_at(s, e / 2);
-        let l = r.name(e % 2);
-        if l != NO_LABEL {
+        if let Some(l) = r.name(e % 2) {
             let mut j = skip(labels, l);
             loop {
                 if j >= labels.len() {
                     break 'outer;
                 }
-                if u16_to_u32(labels[j]) == l {
+                if labels[j] == l {
                     break;
                 }
                 j += 1;
@@ -135,7 +133,7 @@ pub fn resolve(s: &[u8], n: usize, labels: &[u16], places: &[u16], targets: &mut
         }
         e += 1;
     }
-    Found::At(e / 2)
+    Some(e / 2)
 }
 
 // Check 8: whether the last instruction can fall past the end.
@@ -143,7 +141,5 @@ pub fn last_falls(s: &[u8], n: usize) -> bool
     requires { Shaped s.now n }
     ensures { result ≡ falls_through (at (code_of s.now) (n - 1)) }
 {
-    let k = n - 1;
-    let r = reader::instruction_at(s, k);
-    r.falls_through()
+    reader::instruction_at(s, n - 1).falls_through()
 }

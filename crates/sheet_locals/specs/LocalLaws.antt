@@ -9,16 +9,13 @@ use Rattle.sheet.specs.Checks.{locals_ok}
 -- ---- `all`, one element a turn
 
 pub all_more : (f : ℕ → Bool) (xs : List ℕ) (i : ℕ) → i < length xs → f (get_or xs i 0) ≡ true → all f (drop i xs) ≡ all f (drop (i + 1) xs)
-unfolding all
 all_more f xs i h e =
     ap (all f) (drop-cons xs i 0 h) ∙ ap (λ (b : Bool). b && all f (drop (suc i) xs)) e ∙ ap (λ (k : ℕ). all f (drop k xs)) (sym (add-one i))
 
 pub all_stop : (f : ℕ → Bool) (xs : List ℕ) (i : ℕ) → i < length xs → f (get_or xs i 0) ≡ false → all f (drop i xs) ≡ false
-unfolding all
 all_stop f xs i h e = ap (all f) (drop-cons xs i 0 h) ∙ ap (λ (b : Bool). b && all f (drop (suc i) xs)) e
 
 pub all_end : (f : ℕ → Bool) (xs : List ℕ) (i : ℕ) → length xs ≤ i → all f (drop i xs) ≡ true
-unfolding all
 all_end f xs i h = ap (all f) (drop_of_length-le xs h)
 
 -- ---- the first `count` places of a list, one a turn
@@ -41,13 +38,17 @@ module _ (n count : ℕ) (xs : List ℕ) (fits : count ≤ length xs) where
 -- ---- one list after the other
 
 all_append : (f : ℕ → Bool) (xs ys : List ℕ) → all f (xs ++ ys) ≡ all f xs && all f ys
-unfolding all
 all_append f [] ys = refl
 all_append f (x ∷ xs) ys = ap (λ (b : Bool). f x && b) (all_append f xs ys) ∙ sym (and_assoc (f x) (all f xs) (all f ys))
   where
     and_assoc : (a b c : Bool) → a && b && c ≡ a && (b && c)
     and_assoc true b c = refl
     and_assoc false b c = refl
+
+-- one list after the other, and the abort local
+pub locals_ok_lem : (n : ℕ) (r : Bytecode) → locals_ok n r ≡ (all (λ x. ltb x n) (take r.ndst r.dsts) && all (λ x. ltb x n) (take r.nsrc r.srcs) && (not (is_flagged r) || ltb r.abort n))
+unfolding locals_ok dsts_of srcs_of
+locals_ok_lem n r = ap (λ (b : Bool). b && (not (is_flagged r) || ltb r.abort n)) (all_append (λ x. ltb x n) (take r.ndst r.dsts) (take r.nsrc r.srcs))
 
 -- from what its lists and its flag give
 pub locals_are : (n : ℕ) (r : Bytecode) {a b f : Bool} → all (λ x. ltb x n) (take r.ndst r.dsts) ≡ a → all (λ x. ltb x n) (take r.nsrc r.srcs) ≡ b → is_flagged r ≡ f

@@ -1,4 +1,5 @@
 -- A sheet with a heading that keeps to its layout, and any code, is accepted where the code meets checks 4, 18 and 5 to 8. Assumes nothing.
+use Rattle.base.specs.declared.Refusal.TheVariants.{Block, Heading, Length, Record}
 use Rattle.std.specs.Prelude.{◌≡◌, Bool, ◌||◌, ◌&&◌, get_or, drop, length, refl, true, false, cond, List, ℕ, zero, suc, ◌+◌, ◌-◌, ◌*◌, ◌/◌, ◌%◌, ◌^◌, ◌≤◌, ◌<◌, eqb}
 use Rattle.std.proofs.Common.{sym, ap, ap₂, ◌∙◌, subst, eq-eqb, le-leb, lt-ltb, le-ltb, length-take, length-drop, get_or-take, get_or-drop, arith}
 use Rattle.stackless_bytecode.specs.declared.Bytecode.{Bytecode}
@@ -121,8 +122,8 @@ module _ (s : List ℕ) (old : HeadingLayout s) (code : List Bytecode) (body : B
   pub accepted_again : check_sheet (sheet_of (heading_rest s) code) ≡ Accepted
   unfolding check_sheet check_form
   accepted_again =
-      both_accept (sym (both_accept (accepted_whole 1 length_ok_lem)
-      (both_accept (accepted_none 2 (all_none (length sheet / block_bytes) 0 (λ b. block_ok (block_at sheet b) b) (λ j l h. block_ok_lem j (omega (arith, new_size)))))
-      (both_accept (accepted_whole 3 (heading_is sheet new_heading))
-      (sym (accepted_none 4 (all_none (block_records * record_blocks (count_of sheet)) 0 (place_ok sheet) (λ j l h. place_ok_lem j (omega (arith, ap record_blocks same_count))))))))))
+      both_accept (sym (both_accept (accepted_whole Length length_ok_lem)
+      (both_accept (accepted_none Block (all_none (length sheet / block_bytes) 0 (λ b. block_ok (block_at sheet b) b) (λ j l h. block_ok_lem j (omega (arith, new_size)))))
+      (both_accept (accepted_whole Heading (heading_is sheet new_heading))
+      (sym (accepted_none Record (all_none (block_records * record_blocks (count_of sheet)) 0 (place_ok sheet) (λ j l h. place_ok_lem j (omega (arith, ap record_blocks same_count))))))))))
       (ap (check_code (locals_of sheet)) same_code ∙ code_accepted (locals_of sheet) code (subst (λ (x : ℕ). Body x code) (sym same_locals) body))

@@ -1,4 +1,5 @@
 -- What checks 4, 18 and 5 to 8 want of code, and that the code of an accepted sheet has it. Assumes nothing.
+use Rattle.base.specs.declared.Refusal.TheVariants.{FallsThrough, FlaggedStop, LabelRepeated, LabelUndefined, Local}
 use Rattle.std.specs.Prelude.{◌≡◌, true, not, List, ℕ, ◌+◌, ◌-◌, ◌*◌, ◌≤◌, ◌<◌, get_or, drop, length, refl}
 use Rattle.std.proofs.Common.{sym, ap, ◌∙◌, subst, arith, get_or-take, get_or-drop, length-take, length-drop}
 use Rattle.std.proofs.Math.ListN.{get_or-eq_default}
@@ -47,11 +48,11 @@ names_ok_lem code sound k h =
 pub code_accepted : (l : ℕ) (code : List Bytecode) → Body l code → check_code l code ≡ Accepted
 unfolding check_code
 code_accepted l code b =
-    both_accept (accepted_none 18 (all_none (length code) 0 (λ k. stop_ok (at code k)) (λ j i h. b.sound.stops j (omega arith))))
-    (both_accept (accepted_none 5 (all_none (length code) 0 (λ k. locals_ok l (at code k)) (λ j i h. b.locals j (omega arith))))
-    (both_accept (accepted_none 6 (all_none (length code) 0 (fresh code) (λ j l h. unique_fresh code b.unique j (omega arith))))
-    (both_accept (accepted_none 7 (all_none (length code) 0 (λ k. names_ok code (at code k)) (λ j l h. names_ok_lem code b.sound j (omega arith))))
-    (sym (accepted_none 8 (all_none 1 (length code - 1) (λ k. not (falls_through (at code k))) (λ j l h. let s : j ≡ length code - 1 = omega arith in ap not (ap (λ (x : ℕ). falls_through (at code x)) s ∙ b.sound.closed))))))))
+    both_accept (accepted_none FlaggedStop (all_none (length code) 0 (λ k. stop_ok (at code k)) (λ j i h. b.sound.stops j (omega arith))))
+    (both_accept (accepted_none Local (all_none (length code) 0 (λ k. locals_ok l (at code k)) (λ j i h. b.locals j (omega arith))))
+    (both_accept (accepted_none LabelRepeated (all_none (length code) 0 (fresh code) (λ j l h. unique_fresh code b.unique j (omega arith))))
+    (both_accept (accepted_none LabelUndefined (all_none (length code) 0 (λ k. names_ok code (at code k)) (λ j l h. names_ok_lem code b.sound j (omega arith))))
+    (sym (accepted_none FallsThrough (all_none 1 (length code - 1) (λ k. not (falls_through (at code k))) (λ j l h. let s : j ≡ length code - 1 = omega arith in ap not (ap (λ (x : ℕ). falls_through (at code x)) s ∙ b.sound.closed))))))))
 
 -- ---- the code of an accepted sheet
 

@@ -249,7 +249,7 @@ module _ (rest : List ℕ) (code : List Bytecode) (full : length rest ≡ block_
       let xs = take block_records (drop (block_records * q) code) in
       let past : length xs ≤ r = omega (arith, length-take block_records (drop (block_records * q) code), length-drop (block_records * q) code) in
       ap zeros (place_part k (omega arith) ∙ ap (take record_bytes) (beyond record_bytes encode record_size xs (replicate body_bytes 0) r past))
-      ∙ zeros_take record_bytes _ (zeros_drop (record_bytes * r - record_bytes * length xs) (replicate body_bytes 0) (zeros_replicate body_bytes))
+      ∙ zeros_take record_bytes (drop (record_bytes * r - record_bytes * length xs) (replicate body_bytes 0)) (zeros_drop (record_bytes * r - record_bytes * length xs) (replicate body_bytes 0) (zeros_replicate body_bytes))
 
   pub count_again : length code ≤ max_number → count_of (sheet_of rest code) ≡ length code
   unfolding count_of sheet_of block_of bytes_of

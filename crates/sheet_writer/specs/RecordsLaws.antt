@@ -16,7 +16,6 @@ records_length code = gather_length record_bytes encode record_size code
 
 -- none
 pub placed_none : (d : List ℕ) → d ≡ placed [] d
-unfolding gather
 placed_none d = refl
 
 -- the part from a on comes back with more records at its front
@@ -30,7 +29,6 @@ placed_more code more d a e =
 
 -- one record
 pub placed_one : (r : Bytecode) (d x : List ℕ) → x ≡ encode r → x ++ drop record_bytes d ≡ placed (r ∷ []) d
-unfolding gather
 placed_one r d x e = ap (λ (l : List ℕ). l ++ drop record_bytes d) (e ∙ sym (append-nil (encode r)))
 
 -- the rest of a slice, from a on, is lent

@@ -91,7 +91,7 @@ module _ (code : List Bytecode) (size b : ℕ) (room : body_bytes * b + body_byt
       ap (λ (x : List ℕ). get_or (x ++ blank) (i - length own) 0) (none short) ∙ zero_at (i - length own)
     where
       none : length (drop (block_records * b) code) < block_records → more ≡ []
-      none s = unfold more gather in ap (gather encode) (drop_of_length-le (drop (block_records * b) code) {i = block_records} (omega arith))
+      none s = unfold more in ap (gather encode) (drop_of_length-le (drop (block_records * b) code) {i = block_records} (omega arith))
 
       zero_at : (j : ℕ) → get_or blank j 0 ≡ 0
       zero_at j = unfold blank in get_or-drop (record_bytes * length code) (replicate size 0) j 0 ∙ copies_at size (record_bytes * length code + j) 0
@@ -191,14 +191,14 @@ blocks_more flat d b out new h e w = record {
 -- ---- the whole sheet
 
 joins_gather : (n : ℕ) (f : ℕ → List ℕ) → joins n f ≡ gather f (tab n 0 (λ b. b))
-joins_gather zero f = unfold joins gather tab in refl
+joins_gather zero f = unfold joins tab in refl
 joins_gather (suc n) f =
     let next : joins (suc n) f ≡ joins n f ++ f n = unfold joins in refl in
     next ∙ ap (λ (x : List ℕ). x ++ f n) (joins_gather n f)
     ∙ sym (ap (gather f) (tab_snoc n 0 (λ b. b)) ∙ gather_append f (tab n 0 (λ b. b)) ((0 + n) ∷ []) ∙ ap (λ (x : List ℕ). gather f (tab n 0 (λ b. b)) ++ x) (one (0 + n) ∙ ap f (zero-add n)))
   where
     one : (x : ℕ) → gather f (x ∷ []) ≡ f x
-    one x = unfold gather in append-nil (f x)
+    one x = append-nil (f x)
 
 pub joins_agree : {A : Type 0} (n : ℕ) (f g : ℕ → List A) → ((k : ℕ) → k < n → f k ≡ g k) → joins n f ≡ joins n g
 unfolding joins

@@ -120,7 +120,6 @@ block_again (x ∷ y ∷ z ∷ w ∷ body) k h b e f = block_from x y z w k body
 -- ---- two accepted sheets of bytes that agree from byte 4 of each block on
 
 zeros_at : (xs : List ℕ) (i : ℕ) → zeros xs ≡ true → get_or xs i 0 ≡ 0
-unfolding zeros
 zeros_at [] i e = refl
 zeros_at (x ∷ xs) zero e = eqb-true x 0 (and-true (eqb x 0) (zeros xs) e).0
 zeros_at (x ∷ xs) (suc i) e = zeros_at xs i (and-true (eqb x 0) (zeros xs) e).1

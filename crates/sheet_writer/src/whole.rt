@@ -16,20 +16,6 @@ pub const BODY_BYTES: usize = BLOCK_BYTES - RECORDS_FROM;
 // Those of the longest sheet.
 pub const FLAT_BYTES: usize = BODY_BYTES * (MAX_BLOCKS - 1);
 
-const GAP_BYTES: usize = RECORDS_FROM - 4;
-
-// As many bytes.
-pub fn copy(from: &[u8], to: &mut [u8])
-    requires { length to.old ≡ length from.now }
-    ensures { to.new ≡ from.now }
-{
-    let mut i = 0;
-    while i < from.len() {
-        to[i] = from[i];
-        i += 1;
-    }
-}
-
 // A block whose bytes from 4 on are in place: its number and its check.
 fn seal(b: u16, out: &mut [u8])
     requires { length out.old ≡ block_bytes }
@@ -45,7 +31,7 @@ fn put_heading(s: &[u8], n: usize, out: &mut [u8])
     requires { (block_bytes ≤ length s.now) × (n ≤ max_number) × (length out.old ≡ block_bytes) }
     ensures { out.new ≡ block_of 0 (bytes_of 2 n ++ heading_rest s.now) }
 {
-    copy(&s[6..BLOCK_BYTES], &mut out[6..BLOCK_BYTES]);
+    out[6..BLOCK_BYTES].copy_from_slice(&s[6..BLOCK_BYTES]);
     put_u16(&mut out[4..6], n as u16);
     seal(0, out);
 }
@@ -55,9 +41,8 @@ fn put_later(p: &[u8], b: u16, out: &mut [u8])
     requires { (length p.now ≡ body_bytes) × (length out.old ≡ block_bytes) }
     ensures { out.new ≡ block_of b (replicate gap_bytes 0 ++ p.now) }
 {
-    let gap = [0u8; GAP_BYTES];
-    copy(&gap, &mut out[4..RECORDS_FROM]);
-    copy(p, &mut out[RECORDS_FROM..BLOCK_BYTES]);
+    out[4..RECORDS_FROM].fill(0);
+    out[RECORDS_FROM..BLOCK_BYTES].copy_from_slice(p);
     seal(b, out);
 }
 
@@ -66,8 +51,7 @@ fn put_all_later(flat: &[u8], m: usize, out: &mut [u8])
     requires { (m < max_blocks) × (body_bytes * m ≤ length flat.now) × (block_bytes * m ≤ length out.old) }
     ensures { Blocks flat.now out.old m out.new }
 {
-    let mut b = 0;
-    while b < m {
+    for b in 0..m {
         let from = BODY_BYTES * b;
         let at = BLOCK_BYTES * b;
         put_later(
@@ -75,7 +59,6 @@ fn put_all_later(flat: &[u8], m: usize, out: &mut [u8])
             (1 + b) as u16,
             &mut out[at..at + BLOCK_BYTES],
         );
-        b += 1;
     }
 }
 

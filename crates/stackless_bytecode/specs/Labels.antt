@@ -1,6 +1,5 @@
 -- What a label is in some code: named, unnamed or undefined. Assumes nothing.
-use Rattle.std.specs.Prelude.{ℕ, Bool, cond, not, List, eqb, length}
-use Rattle.std.proofs.Math.Option.{none, some}
+use Rattle.std.specs.Prelude.{ℕ, Bool, cond, not, List, eqb, length, None, Some}
 use Rattle.base.specs.Lists.{gather, has, first_bad}
 use Rattle.stackless_bytecode.specs.declared.Bytecode.{Bytecode}
 use Rattle.stackless_bytecode.specs.declared.Lookup.{Lookup}
@@ -11,8 +10,8 @@ use Rattle.stackless_bytecode.specs.Kinds.{at, branch_dests, label_of}
 unfoldable pub lookup : List Bytecode → ℕ → Lookup
 lookup code l =
     elim (first_bad (length code) 0 (λ k. not (has l (label_of (at code k))))) [
-      | none ↦ Undefined
-      | some o ↦ cond (has l (gather branch_dests code)) (Named o) (Unnamed o)
+      | None ↦ Undefined
+      | Some o ↦ cond (has l (gather branch_dests code)) (Named o) (Unnamed o)
     ]
 
 -- the number of each way

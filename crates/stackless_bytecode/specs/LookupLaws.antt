@@ -1,8 +1,7 @@
 -- What the answers of `lookup` say: which label is defined, where, and named by what. Assumes nothing.
-use Rattle.std.specs.Prelude.{◌≡◌, refl, Bool, true, false, cond, not, ℕ, ◌<◌, length, List}
+use Rattle.std.specs.Prelude.{◌≡◌, refl, Bool, true, false, cond, not, ℕ, ◌<◌, length, List, Option, None, Some}
 use Rattle.std.proofs.Common.{sym, ◌∙◌, subst, true≢false, arith, ap}
 use mathlib.Core.List.{Memᴰ}
-use Rattle.std.proofs.Math.Option.{Option, none, some}
 use Rattle.std.proofs.lemmas.Bool.{not-false}
 use Rattle.base.specs.Lists.{gather, has, first_bad}
 use Rattle.base.specs.ListLaws.{by_test, has_in, in_has, gather_in, in_gather, get_d_in, in_get_d}
@@ -19,17 +18,17 @@ use Rattle.stackless_bytecode.specs.Sound.{Defined}
 
 module _ (code : List Bytecode) (l : ℕ) where
   abbrev answer : Option ℕ → Lookup
-  answer x = elim x [ none ↦ Undefined | some o ↦ cond (has l (gather branch_dests code)) (Named o) (Unnamed o) ]
+  answer x = elim x [ None ↦ Undefined | Some o ↦ cond (has l (gather branch_dests code)) (Named o) (Unnamed o) ]
 
   -- no instruction is its Label
   abbrev others : ℕ → Bool
   others k = not (has l (label_of (at code k)))
 
-  pub lookup_found : (o : ℕ) → first_bad (length code) 0 (λ k. not (has l (label_of (at code k)))) ≡ some o → lookup code l ≡ cond (has l (gather branch_dests code)) (Named o) (Unnamed o)
+  pub lookup_found : (o : ℕ) → first_bad (length code) 0 (λ k. not (has l (label_of (at code k)))) ≡ Some o → lookup code l ≡ cond (has l (gather branch_dests code)) (Named o) (Unnamed o)
   unfolding lookup
   lookup_found o e = ap answer e
 
-  pub lookup_missing : first_bad (length code) 0 (λ k. not (has l (label_of (at code k)))) ≡ none → lookup code l ≡ Undefined
+  pub lookup_missing : first_bad (length code) 0 (λ k. not (has l (label_of (at code k)))) ≡ None → lookup code l ≡ Undefined
   unfolding lookup
   lookup_missing e = ap answer e
 
@@ -41,9 +40,9 @@ module _ (code : List Bytecode) (l : ℕ) where
   looked = by (first_bad (length code) 0 others) refl
     where
       by : (x : Option ℕ) → first_bad (length code) 0 others ≡ x → Looked
-      by none e =
+      by None e =
           missing (λ k h i. true≢false (sym (none_all (length code) 0 others e k (omega arith) (omega arith)) ∙ ap not (in_has l (label_of (at code k)) i))) (lookup_missing e)
-      by (some o) e =
+      by (Some o) e =
           found o (omega (arith, bad_lt (length code) 0 others o e))
           (has_in l (label_of (at code o)) (not-false (has l (label_of (at code o))) (bad_fails (length code) 0 others o e))) (lookup_found o e)
 
@@ -60,7 +59,7 @@ found_named : (b : Bool) (o : ℕ) → is_named (cond b (Named o) (Unnamed o)) �
 found_named true o = refl
 found_named false o = refl
 
-pub offset_first : (code : List Bytecode) (l o : ℕ) → first_bad (length code) 0 (λ k. not (has l (label_of (at code k)))) ≡ some o → label_offset code l ≡ o
+pub offset_first : (code : List Bytecode) (l o : ℕ) → first_bad (length code) 0 (λ k. not (has l (label_of (at code k)))) ≡ Some o → label_offset code l ≡ o
 offset_first code l o e = ap offset_of (lookup_found code l o e) ∙ found_offset (has l (gather branch_dests code)) o
 
 -- ---- which label is defined, and where

@@ -1,8 +1,7 @@
 -- Where instructions are changed but for where they go, blocks, keys and successors are as they were. Assumes nothing.
-use Rattle.std.specs.Prelude.{◌≡◌, Bool, not, ◌||◌, get_or, length, refl, true, false, cond, List, [], ◌∷◌, ◌++◌, map, ℕ, zero, suc, ◌-◌}
+use Rattle.std.specs.Prelude.{◌≡◌, Bool, not, ◌||◌, get_or, length, refl, true, false, cond, List, [], ◌∷◌, ◌++◌, map, ℕ, zero, suc, ◌-◌, Option, None, Some}
 use Rattle.std.proofs.Common.{ap, ap₂, sym, ◌∙◌}
 use Rattle.std.proofs.Math.Path.{fun_ext}
-use Rattle.std.proofs.Math.Option.{Option, none, some}
 use Rattle.std.proofs.lemmas.List.{length-map}
 use Rattle.std.proofs.Math.ListN.{get_or-map}
 use Rattle.base.specs.Lists.{keep, gather, any, has, firsts, first_bad}
@@ -35,7 +34,6 @@ module _ {f : Bytecode → Bytecode} (same : KeepsFlow f) (code : List Bytecode)
   length_alike = length-map code f
 
   named_alike : (rs : List Bytecode) → gather branch_dests (map f rs) ≡ gather branch_dests rs
-  unfolding gather
   named_alike [] = refl
   named_alike (r ∷ rs) = ap₂ (λ (a b : List ℕ). a ++ b) (same.dests r) (named_alike rs)
 
@@ -44,7 +42,7 @@ module _ {f : Bytecode → Bytecode} (same : KeepsFlow f) (code : List Bytecode)
   lookup_alike = fun_ext each
     where
       answer : ℕ → Option ℕ → List ℕ → Lookup
-      answer l x names = elim x [ none ↦ Undefined | some o ↦ cond (has l names) (Named o) (Unnamed o) ]
+      answer l x names = elim x [ None ↦ Undefined | Some o ↦ cond (has l names) (Named o) (Unnamed o) ]
 
       label : (k : ℕ) → label_of (at (map f code) k) ≡ label_of (at code k)
       label k = ap label_of (at_alike k) ∙ same.label _

@@ -11,7 +11,7 @@ use Rattle.stackless_bytecode.specs.Kinds.{Branch, Jump, at, is_exit, is_flagged
 use Rattle.stackless_bytecode.specs.Labels.{lookup, is_named, label_offset}
 use Rattle.stackless_bytecode.specs.LookupLaws.{named_at}
 use Rattle.stackless_bytecode.specs.Successors.{ascending, successors}
-use Rattle.stackless_control_flow_graph.specs.Blocks.{starts, lowers, lower_of, up_from, upper_of, keyed}
+use Rattle.stackless_control_flow_graph.specs.Blocks.{starts, Start, lowers, lower_of, up_from, upper_of, keyed}
 use Rattle.stackless_bytecode.specs.SuccessorLaws.{in_ascending}
 use Rattle.stackless_bytecode.specs.Sound.{Sound}
 use Rattle.base.specs.ListLaws.{or-false, by_test, by_eq, any_in, keep_in, in_keep, gather_in, in_gather, in_map, firsts_in, in_firsts, firsts_distinct}
@@ -44,10 +44,6 @@ unfolding starts
 succs_mid code k e = succs_quiet code k (or-false (is_branch (at code k)) (any (λ l. is_named (lookup code l)) (label_of (at code (suc k)))) e).0
 
 -- ---- what ends a block has starts for successors
-
-pub record Start (code : List Bytecode) (o : ℕ) : Type 0 where
-  pub inside : o < length code
-  pub starts : starts code o ≡ true
 
 -- a named Label starts a block
 label_starts : (code : List Bytecode) (o l : ℕ) → Memᴰ l (label_of (at code o)) → is_named (lookup code l) ≡ true → starts code o ≡ true

@@ -1,5 +1,5 @@
 -- Where blocks start and end, their keys, and the flow table. All over the list of instructions. Assumes nothing.
-use Rattle.std.specs.Prelude.{ℕ, zero, suc, ◌-◌, ◌*◌, Bool, true, false, cond, ◌||◌, List, [], ◌∷◌, ◌++◌, map, get_or, length}
+use Rattle.std.specs.Prelude.{◌<◌, ◌≡◌, ℕ, zero, suc, ◌-◌, ◌*◌, Bool, true, false, cond, ◌||◌, List, [], ◌∷◌, ◌++◌, map, get_or, length}
 use Rattle.base.specs.Sizes.{row_numbers}
 use Rattle.base.specs.Lists.{keep, gather, any, place, firsts}
 use Rattle.base.specs.Refusals.{Reply, Done, ◌then◌, lends, reply}
@@ -16,6 +16,11 @@ use Rattle.sheet.specs.Checks.{check_sheet}
 unfoldable pub starts : List Bytecode → ℕ → Bool
 starts code zero = true
 starts code (suc k) = is_branch (at code k) || any (λ l. is_named (lookup code l)) (label_of (at code (suc k)))
+
+-- offset o of the code is the lower of a block
+pub record Start (code : List Bytecode) (o : ℕ) : Type 0 where
+  pub inside : o < length code
+  pub starts : starts code o ≡ true
 
 -- the lower of each block, by offset
 unfoldable pub lowers : List Bytecode → List ℕ

@@ -1,43 +1,26 @@
 -- What an accepted sheet gives the flow. Assumes nothing.
-use Rattle.std.specs.Prelude.{◌≡◌, refl, true, false, ℕ, ◌+◌, ◌*◌, ◌<◌, ◌≤◌, get_or, set, length, List, [], ◌∷◌}
-use Rattle.std.proofs.Common.{sym, ap, ap₂, ◌∙◌, subst, add-one, arith, get_or-set_other, get_or-set_same}
+use Rattle.std.specs.Prelude.{◌≡◌, refl, Bool, true, false, ℕ, ◌+◌, ◌*◌, ◌<◌, ◌≤◌, get_or, set, length, List, [], ◌∷◌}
+use Rattle.std.proofs.Common.{sym, ap, ap₂, ◌∙◌, subst, true≢false, add-one, arith, get_or-set_other, get_or-set_same}
 use mathlib.Core.List.{Memᴰ}
-use Rattle.base.specs.Sizes.{max_instructions}
-use Rattle.base.specs.Refusals.{Accepted}
 use Rattle.base.specs.ListLaws.{by_eq}
 use Rattle.stackless_bytecode.specs.declared.Bytecode.{Bytecode}
 use Rattle.stackless_bytecode.specs.Kinds.{at, stop_ok, is_branch}
 use Rattle.stackless_bytecode.specs.Successors.{Unique, successors}
 use Rattle.stackless_bytecode.specs.Sound.{Sound}
 use Rattle.stackless_bytecode.specs.SlotLaws.{LabelsBelow}
-use Rattle.sheet.specs.Layout.{count_of, instruction_at, code_of}
-use Rattle.sheet.specs.Checks.{check_sheet}
+use Rattle.sheet.specs.Layout.{code_of}
+use Rattle.sheet.specs.Accepted.{CheckedSheet}
 use Rattle.sheet.specs.CheckLaws.{code_sound}
-use Rattle.sheet.specs.Shaped.{Shaped, code_size, code_at, record_inside}
+use Rattle.sheet.specs.Shaped.{Shaped, code_size}
 use Rattle.sheet.specs.FormLaws.{accepted_shaped}
 use Rattle.sheet.specs.ValidLaws.{accepted_valid}
 use Rattle.stackless_control_flow_graph.specs.declared.Successors.{Successors}
 use Rattle.stackless_control_flow_graph.specs.Blocks.{starts}
-use Rattle.stackless_control_flow_graph.specs.Arrays.{offsets_of, succs_by, put_two, mark_all, Within, SuccessorsTo, Marking, Visits, HasRecord, CheckedSheet}
+use Rattle.stackless_control_flow_graph.specs.Arrays.{offsets_of, succs_by, mark_all, Within, Marking, Visits}
 use Rattle.stackless_control_flow_graph.specs.BlockLaws.{succs_quiet}
-use Rattle.stackless_control_flow_graph.specs.StartLaws.{resolved_succs, succs_within, two_places, going_more, marks_skip, marks_more}
+use Rattle.stackless_control_flow_graph.specs.StartLaws.{resolved_succs, succs_within, going_more, marks_skip, marks_more}
 
--- ---- an accepted sheet
-
-module _ (s : List ℕ) (accepted : check_sheet s ≡ Accepted) where
-  shaped : Shaped s (count_of s)
-  shaped = accepted_shaped s (count_of s) refl accepted
-
-  pub accepted_few : length (code_of s) ≤ max_instructions
-  accepted_few = omega (arith, code_size shaped, shaped.few)
-
-  pub accepted_at : (k : ℕ) → k < length (code_of s) → at (code_of s) k ≡ instruction_at s k
-  accepted_at k h = code_at shaped k (omega (arith, code_size shaped))
-
-  pub accepted_has : (k : ℕ) → k < length (code_of s) → HasRecord s k
-  accepted_has k h = record { ends = record_inside shaped k (omega (arith, code_size shaped)); few = omega (arith, accepted_few) }
-
--- ---- and the offsets of its labels
+-- ---- an accepted sheet and the offsets of its labels
 
 module _ {s : List ℕ} {n : ℕ} {targets : List ℕ} (g : CheckedSheet s n targets) where
   pub checked_shaped : Shaped s n
@@ -54,10 +37,7 @@ module _ {s : List ℕ} {n : ℕ} {targets : List ℕ} (g : CheckedSheet s n tar
 
   -- ---- one instruction
 
-  module _ (k : ℕ) (h : k < n) (r : Bytecode) (is : r ≡ instruction_at s k) (below : LabelsBelow r) where
-    here : r ≡ at (code_of s) k
-    here = is ∙ sym (code_at checked_shaped k h)
-
+  module _ (k : ℕ) (h : k < n) (r : Bytecode) (here : r ≡ at (code_of s) k) (below : LabelsBelow r) where
     inside : k < length (code_of s)
     inside = omega (arith, checked_size)
 
@@ -76,30 +56,25 @@ module _ {s : List ℕ} {n : ℕ} {targets : List ℕ} (g : CheckedSheet s n tar
     pub next_within : (e : Successors) → offsets_of e ≡ successors (code_of s) k → Within n (offsets_of e)
     next_within e p = record { each = λ x i. omega (arith, checked_size, (succs_within (code_of s) checked_sound k inside).each x (subst (λ (l : List ℕ). Memᴰ x l) p i)) }
 
-    going : (goes : List ℕ) (e : Successors) → 2 * n ≤ length goes → offsets_of e ≡ successors (code_of s) k → SuccessorsTo (code_of s) k goes → SuccessorsTo (code_of s) (k + 1) (put_two goes k (offsets_of e))
-    going goes e room p v =
-        going_more (code_of s) k goes (offsets_of e) (omega arith) (two_places e.count e.first e.second (record { each = λ x i. omega (arith, (next_within e p).each x i, checked_shaped.few) }) ∙ p) v
-
-    pub visit_quiet : (goes marks : List ℕ) (e : Successors) → 2 * n ≤ length goes → offsets_of e ≡ successors (code_of s) k → is_branch r ≡ false
-        → Visits (code_of s) k goes marks (put_two goes k (offsets_of e)) marks
+    pub visit_quiet : (goes : List Successors) (marks : List Bool) (e : Successors) → n ≤ length goes → offsets_of e ≡ successors (code_of s) k → is_branch r ≡ false → Visits (code_of s) k goes marks (set goes k e) marks
     visit_quiet goes marks e room p b = record {
-      going = going goes e room p;
+      going = going_more (code_of s) k goes e (omega arith) p;
       marking = marks_skip (code_of s) k marks (ap is_branch (sym here) ∙ b);
     }
 
-    pub visit_branch : (goes marks : List ℕ) (e : Successors) → 2 * n ≤ length goes → n < length marks → offsets_of e ≡ successors (code_of s) k → is_branch r ≡ true
-        → Visits (code_of s) k goes marks (put_two goes k (offsets_of e)) (mark_all marks ((k + 1) ∷ offsets_of e))
+    pub visit_branch : (goes : List Successors) (marks : List Bool) (e : Successors) → n ≤ length goes → n < length marks → offsets_of e ≡ successors (code_of s) k → is_branch r ≡ true
+        → Visits (code_of s) k goes marks (set goes k e) (mark_all marks ((k + 1) ∷ offsets_of e))
     visit_branch goes marks e room wide p b = record {
-      going = going goes e room p;
+      going = going_more (code_of s) k goes e (omega arith) p;
       marking = λ m. subst (λ (l : List ℕ). Marking (code_of s) (k + 1) (mark_all marks ((k + 1) ∷ l))) (sym p) (marks_more (code_of s) checked_sound k marks inside (omega (arith, checked_size)) (ap is_branch (sym here) ∙ b) m);
     }
 
 -- ---- the pass begins
 
-pub marks_begin : (s : List ℕ) (marks : List ℕ) → 0 < length marks → ((j : ℕ) → get_or marks j 0 ≡ 0) → Marking (code_of s) 0 (set marks 0 1)
+pub marks_begin : (s : List ℕ) (marks : List Bool) → 0 < length marks → ((j : ℕ) → get_or marks j false ≡ false) → Marking (code_of s) 0 (set marks 0 true)
 marks_begin s marks h z = record {
-  sound = λ j l e. by_eq j 0 (λ q. ap (starts (code_of s)) q ∙ unfold starts in refl) (λ q. absurd (omega (arith, z j, sym (get_or-set_other marks 0 j 1 0 q) ∙ e)));
-  entry = get_or-set_same marks 0 1 0 h;
+  sound = λ j l e. by_eq j 0 (λ q. ap (starts (code_of s)) q ∙ unfold starts in refl) (λ q. absurd (true≢false (sym e ∙ get_or-set_other marks 0 j true false q ∙ z j)));
+  entry = get_or-set_same marks 0 true false h;
   behind = λ j l. absurd (omega arith);
   named = λ j o l. absurd (omega arith);
 }

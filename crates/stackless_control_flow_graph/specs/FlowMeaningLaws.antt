@@ -1,5 +1,5 @@
 -- The flow table means what it is to mean. Assumes nothing.
-use Rattle.std.specs.Prelude.{◌≡◌, ℕ, ◌+◌, ◌*◌, ◌≤◌, ◌<◌, length, drop, List, ◌++◌, get_or}
+use Rattle.std.specs.Prelude.{◌≡◌, Result, Ok, Err, refl, ℕ, ◌+◌, ◌*◌, ◌≤◌, ◌<◌, length, drop, List, ◌++◌, get_or}
 use Rattle.std.proofs.Common.{sym, ap, ◌∙◌, subst, get_or-take, arith, get_or-drop}
 use mathlib.Core.List.{Memᴰ}
 use Rattle.base.specs.Sizes.{row_numbers}
@@ -7,7 +7,9 @@ use Rattle.base.specs.Lists.{place}
 use Rattle.base.specs.ListLaws.{get_d_in, place_lt, get_d_place, place_get_d}
 use Rattle.base.specs.JoinLaws.{by_lt}
 use Rattle.base.specs.PartLaws.{chunk}
-use Rattle.base.specs.Refusals.{Accepted, Result, result_of, output_after}
+use Rattle.base.specs.declared.Refusal.{Refusal}
+use Rattle.base.specs.Refusals.{Accepted, answer_of, output_after}
+use Rattle.base.specs.ReplyLaws.{done_value}
 use Rattle.stackless_bytecode.specs.declared.Bytecode.{Bytecode}
 use Rattle.stackless_bytecode.specs.Successors.{successors}
 use Rattle.stackless_bytecode.specs.SuccessorLaws.{exit_nowhere, two_successors}
@@ -17,7 +19,8 @@ use Rattle.sheet.specs.Layout.{code_of}
 use Rattle.sheet.specs.Checks.{check_sheet}
 use Rattle.sheet.specs.CheckLaws.{code_sound}
 use Rattle.stackless_control_flow_graph.specs.Blocks.{starts, lowers, blocks_of, lower_of, upper_of, keyed, key_of, row, flow_table, flow_reply}
-use Rattle.stackless_control_flow_graph.specs.BlockLaws.{Start, named_starts, upper_le, upper_lt, upper_lower}
+use Rattle.stackless_control_flow_graph.specs.BlockLaws.{named_starts, upper_le, upper_lt, upper_lower}
+use Rattle.stackless_control_flow_graph.specs.Blocks.{Start}
 use Rattle.stackless_control_flow_graph.specs.FlowLaws.{in_lowers, lowers_in, lowers_distinct}
 use Rattle.stackless_control_flow_graph.specs.GraphLaws.{blocks_cover, blocks_apart, inner_quiet, succs_lower, keys_from, keys_to, keys_once, keys_all}
 use Rattle.stackless_control_flow_graph.specs.CallLaws.{row_length, flow_short, flow_done}
@@ -108,12 +111,14 @@ module _ (code : List Bytecode) (sound : Sound code) (z : List ℕ) where
   }
 
 -- so does whatever flow answers for an accepted sheet, where it answers with a table
-pub flow_means : (s lent-table table' : List ℕ) (r : Result) → check_sheet s ≡ Accepted → r ≡ result_of (flow_reply s (length lent-table)) → table' ≡ output_after (flow_reply s (length lent-table)) lent-table
-    → r.number ≡ 0 → FlowMeaning (code_of s) r.value table'
-unfolding result_of output_after
-flow_means s old table' r e result written zero =
+pub flow_means : (s lent-table table' : List ℕ) (m : ℕ) → check_sheet s ≡ Accepted → Ok m ≡ answer_of (flow_reply s (length lent-table)) → table' ≡ output_after (flow_reply s (length lent-table)) lent-table
+    → FlowMeaning (code_of s) m table'
+flow_means s old table' m e result written =
     by_lt (length old) (row_numbers * blocks_of (code_of s))
-    (λ h. absurd (omega (arith, zero, ap (λ (x : Result). x.number) (result ∙ ap result_of (flow_short s (length old) e h)))))
+    (λ h. absurd (ok_err (result ∙ ap answer_of (flow_short s (length old) e h))))
     (λ h. let d = flow_done s (length old) e h in
-    subst (λ (n : ℕ). FlowMeaning (code_of s) n table') (sym (ap (λ (x : Result). x.value) (result ∙ ap result_of d)))
+    subst (λ (n : ℕ). FlowMeaning (code_of s) n table') (sym (done_value result d refl))
     (subst (FlowMeaning (code_of s) (blocks_of (code_of s))) (sym (written ∙ ap (λ x. output_after x old) d)) (flow_meaning (code_of s) (code_sound s e) _)))
+  where
+    ok_err : {n : ℕ} {f : Refusal} → ◌≡◌ {A = Result ℕ Refusal} (Ok n) (Err f) → ⊥
+    ok_err q = let z : ◌≡◌ {A = ℕ} 0 1 = cc in omega arith

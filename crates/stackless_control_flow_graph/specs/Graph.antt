@@ -1,19 +1,8 @@
 -- The graph of a code's blocks by key, in the arrays that a run over it reads. Assumes nothing.
 use Rattle.std.specs.Prelude.{◌≡◌, List, ℕ, ◌+◌, ◌≤◌, ◌<◌, get_or, length}
-use Rattle.base.specs.Sizes.{max_instructions}
 use Rattle.stackless_bytecode.specs.declared.Bytecode.{Bytecode}
 use Rattle.stackless_control_flow_graph.specs.Blocks.{lower_of, upper_of, keyed, key_of}
-use Rattle.stackless_control_flow_graph.specs.Sorting.{max_slots, Leads}
-
--- the arrays have room for the blocks of any sheet, and are blank where they are counted in
-pub record GraphRoom (lower_of_key upper_of_key key_of_offset first_edge edges : List ℕ) : Type 0 where
-  pub lowers_long : max_instructions ≤ length lower_of_key
-  pub uppers_long : max_instructions ≤ length upper_of_key
-  pub keys_long : length key_of_offset ≡ max_instructions
-  pub keys_blank : (o : ℕ) → get_or key_of_offset o 0 ≡ 0
-  pub firsts_long : max_instructions + 5 ≤ length first_edge
-  pub firsts_blank : (v : ℕ) → get_or first_edge v 0 ≡ 0
-  pub edges_long : max_slots ≤ length edges
+use Rattle.stackless_control_flow_graph.specs.Sorting.{Leads}
 
 -- the lower and the upper of each block, by key
 pub record Bounds (code : List Bytecode) (lower_of_key upper_of_key : List ℕ) : Type 0 where

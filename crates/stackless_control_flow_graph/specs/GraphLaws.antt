@@ -10,7 +10,8 @@ use Rattle.stackless_bytecode.specs.Labels.{lookup, is_named}
 use Rattle.stackless_bytecode.specs.Successors.{successors}
 use Rattle.stackless_bytecode.specs.Sound.{Sound}
 use Rattle.stackless_control_flow_graph.specs.Blocks.{starts, lowers, blocks_of, lower_of, upper_of, keyed, key_of}
-use Rattle.stackless_control_flow_graph.specs.BlockLaws.{Last, Start, succs_start, upper_le, upper_lt, upper_last, upper_stop, lower_start, lower_next, lower_starts, lower_le, upper_lower, keyed_in, in_keyed, keyed_distinct}
+use Rattle.stackless_control_flow_graph.specs.BlockLaws.{Last, succs_start, upper_le, upper_lt, upper_last, upper_stop, lower_start, lower_next, lower_starts, lower_le, upper_lower, keyed_in, in_keyed, keyed_distinct}
+use Rattle.stackless_control_flow_graph.specs.Blocks.{Start}
 use Rattle.stackless_control_flow_graph.specs.FlowLaws.{lowers_in, keys_blocks}
 
 module _ (code : List Bytecode) where

@@ -22,6 +22,5 @@ pub mod SortLaws
 pub mod SlotLaws
 pub mod LeadLaws
 pub mod SpreadLaws
-pub mod GraphTableLaws
 pub mod AlikeLaws
 pub mod TargetLaws

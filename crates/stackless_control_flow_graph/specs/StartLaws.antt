@@ -1,10 +1,9 @@
 -- The pass over the instructions: successors into their places, and marks where blocks start. Assumes nothing.
-use Rattle.std.specs.Prelude.{◌≡◌, refl, ◌⊎◌, Bool, false, cond, not, ◌||◌, ℕ, zero, suc, ◌+◌, ◌*◌, ◌/◌, ◌%◌, ◌-◌, ◌≤◌, ◌<◌, eqb, set, length, take, true, List, [], ◌∷◌, ◌++◌, map, get_or}
-use Rattle.std.proofs.Common.{sym, ap₂, ◌∙◌, subst, ⊎_elim, true≢false, arith, add-one, eq-eqb, ne_eqb, length-set, get_or-set_same, get_or-set_other, ap, inl, inr}
+use Rattle.std.specs.Prelude.{◌≡◌, refl, ◌⊎◌, Bool, false, cond, not, ◌||◌, ℕ, zero, suc, ◌+◌, ◌*◌, ◌/◌, ◌%◌, ◌-◌, ◌<◌, eqb, set, length, take, true, List, [], ◌∷◌, ◌++◌, map, get_or}
+use Rattle.std.proofs.Common.{sym, ap₂, ◌∙◌, subst, ⊎_elim, true≢false, arith, add-one, length-set, get_or-set_same, get_or-set_other, ap, inl, inr}
 use mathlib.Core.List.Memᴰ
 use mathlib.Core.List.{Memᴰ}
-use Rattle.std.proofs.Math.Seq.{take-nil}
-use Rattle.base.specs.Lists.{over, any}
+use Rattle.base.specs.Lists.{any}
 use Rattle.base.specs.ListLaws.{by_test, by_eq, or-true, in_any}
 use Rattle.stackless_bytecode.specs.declared.Bytecode.{Bytecode}
 use Rattle.stackless_bytecode.specs.Kinds.{at, is_exit, is_flagged, is_branch, falls_through, branch_dests, label_of}
@@ -16,54 +15,10 @@ use Rattle.stackless_bytecode.specs.SuccessorLaws.{NextOffset, in_succs, succs_i
 use Rattle.stackless_bytecode.specs.Sound.{Sound}
 use Rattle.stackless_bytecode.specs.Slots.{no_label, slot_at, Resolved}
 use Rattle.stackless_bytecode.specs.SlotLaws.{LabelsBelow}
+use Rattle.stackless_control_flow_graph.specs.declared.Successors.{Successors}
 use Rattle.stackless_control_flow_graph.specs.Blocks.{starts}
 use Rattle.stackless_control_flow_graph.specs.BlockLaws.{Last, succs_start}
-use Rattle.stackless_control_flow_graph.specs.Arrays.{succs_by, no_offset, offset_in, pair_of, succs_in, put_two, mark_all, Within, SuccessorsTo, Marked, Marking}
-
--- ---- none, one or two by value
-
-pub first_is : (c f s d : ℕ) → (c ≡ 0 → ⊥) → f ≡ get_or (take c (f ∷ s ∷ [])) 0 d
-first_is zero f s d h = absurd (h refl)
-first_is (suc c) f s d h = refl
-
-pub second_none : (c f s d : ℕ) → c ≤ 1 → d ≡ get_or (take c (f ∷ s ∷ [])) 1 d
-second_none zero f s d h = refl
-second_none (suc zero) f s d h = refl
-second_none (suc (suc c)) f s d h = absurd (omega arith)
-
-pub second_is : (c f s d : ℕ) → 1 < c → s ≡ get_or (take c (f ∷ s ∷ [])) 1 d
-second_is zero f s d h = absurd (omega arith)
-second_is (suc zero) f s d h = absurd (omega arith)
-second_is (suc (suc c)) f s d h = refl
-
--- the first is among them, and the second
-pub first_in : (c f s : ℕ) → (c ≡ 0 → ⊥) → Memᴰ f (take c (f ∷ s ∷ []))
-first_in zero f s h = absurd (h refl)
-first_in (suc c) f s h = Memᴰ.head refl
-
-pub second_in : (c f s : ℕ) → (c ≡ 0 → ⊥) → (c ≡ 1 → ⊥) → Memᴰ s (take c (f ∷ s ∷ []))
-second_in zero f s h g = absurd (h refl)
-second_in (suc zero) f s h g = absurd (g refl)
-second_in (suc (suc c)) f s h g = Memᴰ.tail (Memᴰ.head refl)
-
--- ---- marks, one after the other
-
-pub mark_none : (m : List ℕ) (n c f s : ℕ) → c ≡ 0 → set m n 1 ≡ mark_all m (n ∷ take c (f ∷ s ∷ []))
-unfolding mark_all over
-mark_none m n zero f s e = refl
-mark_none m n (suc c) f s e = absurd (omega arith)
-
-pub mark_one : (m : List ℕ) (n c f s : ℕ) → c ≡ 1 → set (set m n 1) f 1 ≡ mark_all m (n ∷ take c (f ∷ s ∷ []))
-unfolding mark_all over
-mark_one m n zero f s e = absurd (omega arith)
-mark_one m n (suc zero) f s e = refl
-mark_one m n (suc (suc c)) f s e = absurd (omega arith)
-
-pub mark_two : (m : List ℕ) (n c f s : ℕ) → (c ≡ 0 → ⊥) → (c ≡ 1 → ⊥) → set (set (set m n 1) f 1) s 1 ≡ mark_all m (n ∷ take c (f ∷ s ∷ []))
-unfolding mark_all over
-mark_two m n zero f s h g = absurd (h refl)
-mark_two m n (suc zero) f s h g = absurd (g refl)
-mark_two m n (suc (suc c)) f s h g = ap (λ (l : List ℕ). mark_all m (n ∷ f ∷ s ∷ l)) (sym (take-nil c))
+use Rattle.stackless_control_flow_graph.specs.Arrays.{offsets_of, succs_by, succs_in, mark_all, Within, SuccessorsTo, Marked, Marking}
 
 -- ---- the successors of an offset, from the offsets of its labels
 
@@ -114,71 +69,42 @@ succs_within code sound k h = record { each = λ o i. go o (in_succs code k o i)
 
 -- ---- into their places
 
--- at most two come back as they were put
-pub two_places : (c f s : ℕ) → Within no_offset (take c (f ∷ s ∷ [])) → pair_of (get_or (take c (f ∷ s ∷ [])) 0 no_offset) (get_or (take c (f ∷ s ∷ [])) 1 no_offset) ≡ take c (f ∷ s ∷ [])
-unfolding offset_in
-two_places zero f s w = refl
-two_places (suc zero) f s w = ap (λ (b : Bool). cond b [] (f ∷ []) ++ []) (ne_eqb f no_offset (λ e. omega (arith, w.each f (Memᴰ.head refl))))
-two_places (suc (suc c)) f s w =
-    ap₂ (λ (a b : Bool). cond a [] (f ∷ []) ++ cond b [] (s ∷ [])) (ne_eqb f no_offset (λ e. omega (arith, w.each f (Memᴰ.head refl))))
-    (ne_eqb s no_offset (λ e. omega (arith, w.each s (Memᴰ.tail (Memᴰ.head refl)))))
-    ∙ ap (λ (l : List ℕ). f ∷ s ∷ l) (sym (take-nil c))
-
-pub going_more : (code : List Bytecode) (k : ℕ) (goes xs : List ℕ) → 2 * k + 1 < length goes → pair_of (get_or xs 0 no_offset) (get_or xs 1 no_offset) ≡ successors code k
-    → SuccessorsTo code k goes → SuccessorsTo code (k + 1) (put_two goes k xs)
-going_more code k goes xs room is g = record { each = λ j h. by_eq j k (λ e. here j e) (λ q. other j (omega arith)) }
-  where
-    a : ℕ
-    a = get_or xs 0 no_offset
-
-    b : ℕ
-    b = get_or xs 1 no_offset
-
-    here : (j : ℕ) → j ≡ k → succs_in (put_two goes k xs) j ≡ successors code j
-    here j e =
-        let one : get_or (set (set goes (2 * k) (get_or xs 0 no_offset)) (2 * k + 1) (get_or xs 1 no_offset)) (2 * k) 0 ≡ get_or xs 0 no_offset =
-        get_or-set_other (set goes (2 * k) (get_or xs 0 no_offset)) (2 * k + 1) (2 * k) (get_or xs 1 no_offset) 0 (λ q. omega arith) ∙ get_or-set_same goes (2 * k) (get_or xs 0 no_offset) 0 (omega arith) in
-        let two : get_or (set (set goes (2 * k) (get_or xs 0 no_offset)) (2 * k + 1) (get_or xs 1 no_offset)) (2 * k + 1) 0 ≡ get_or xs 1 no_offset =
-        get_or-set_same (set goes (2 * k) (get_or xs 0 no_offset)) (2 * k + 1) (get_or xs 1 no_offset) 0 (omega (arith, length-set goes (2 * k) (get_or xs 0 no_offset))) in
-        ap (λ (x : ℕ). succs_in (put_two goes k xs) x) e ∙ ap₂ pair_of one two ∙ is ∙ ap (successors code) (sym e)
-
-    other : (j : ℕ) → j < k → succs_in (put_two goes k xs) j ≡ successors code j
-    other j h = ap₂ pair_of (kept (2 * j) (omega arith)) (kept (2 * j + 1) (omega arith)) ∙ g.each j h
-      where
-        kept : (i : ℕ) → i < 2 * k → get_or (put_two goes k xs) i 0 ≡ get_or goes i 0
-        kept i l =
-            get_or-set_other (set goes (2 * k) (get_or xs 0 no_offset)) (2 * k + 1) i (get_or xs 1 no_offset) 0 (λ q. omega arith)
-            ∙ get_or-set_other goes (2 * k) i (get_or xs 0 no_offset) 0 (λ q. omega arith)
+pub going_more : (code : List Bytecode) (k : ℕ) (goes : List Successors) (e : Successors) → k < length goes → offsets_of e ≡ successors code k → SuccessorsTo code k goes → SuccessorsTo code (k + 1) (set goes k e)
+going_more code k goes e room is g = record {
+  each = λ j h. by_eq j k
+      (λ q. ap (λ (x : ℕ). succs_in (set goes k e) x) q ∙ ap offsets_of (get_or-set_same goes k e Successors.None room) ∙ is ∙ ap (successors code) (sym q))
+      (λ q. ap offsets_of (get_or-set_other goes k j e Successors.None q) ∙ g.each j (omega arith));
+}
 
 -- ---- marks
 
-mark_kept : (m xs : List ℕ) (j : ℕ) → get_or m j 0 ≡ 1 → get_or (mark_all m xs) j 0 ≡ 1
-unfolding mark_all over
+mark_kept : (m : List Bool) (xs : List ℕ) (j : ℕ) → get_or m j false ≡ true → get_or (mark_all m xs) j false ≡ true
+unfolding mark_all
 mark_kept m [] j e = e
 mark_kept m (x ∷ xs) j e =
-    mark_kept (set m x 1) xs j (by_eq j x
-    (λ q. ap (λ (i : ℕ). get_or (set m i 1) j 0) (sym q) ∙ get_or-set_same m j 1 0 (in_range m j e)) (λ q. get_or-set_other m x j 1 0 q ∙ e))
+    mark_kept (set m x true) xs j (by_eq j x
+    (λ q. ap (λ (i : ℕ). get_or (set m i true) j false) (sym q) ∙ get_or-set_same m j true false (in_range m j e)) (λ q. get_or-set_other m x j true false q ∙ e))
   where
-    in_range : (l : List ℕ) (i : ℕ) → get_or l i 0 ≡ 1 → i < length l
-    in_range [] i e = absurd (omega arith)
+    in_range : (l : List Bool) (i : ℕ) → get_or l i false ≡ true → i < length l
+    in_range [] i e = absurd (true≢false (sym e))
     in_range (y ∷ ys) zero e = omega arith
     in_range (y ∷ ys) (suc i) e = omega (arith, in_range ys i e)
 
-mark_in : (m xs : List ℕ) (j : ℕ) → j < length m → Memᴰ j xs → get_or (mark_all m xs) j 0 ≡ 1
-unfolding mark_all over
+mark_in : (m : List Bool) (xs : List ℕ) (j : ℕ) → j < length m → Memᴰ j xs → get_or (mark_all m xs) j false ≡ true
+unfolding mark_all
 mark_in m [] j h i = absurd (Memᴰ.not-nil i)
 mark_in m (x ∷ xs) j h i =
-    ⊎_elim (λ e. mark_kept (set m x 1) xs j (ap (λ (y : ℕ). get_or (set m y 1) j 0) (sym e) ∙ get_or-set_same m j 1 0 h))
-    (λ t. mark_in (set m x 1) xs j (omega (arith, length-set m x 1)) t) (Memᴰ.cases_cons i)
+    ⊎_elim (λ e. mark_kept (set m x true) xs j (ap (λ (y : ℕ). get_or (set m y true) j false) (sym e) ∙ get_or-set_same m j true false h))
+    (λ t. mark_in (set m x true) xs j (omega (arith, length-set m x true)) t) (Memᴰ.cases_cons i)
 
-in_mark : (m xs : List ℕ) (j : ℕ) → get_or (mark_all m xs) j 0 ≡ 1 → (get_or m j 0 ≡ 1) ⊎ Memᴰ j xs
-unfolding mark_all over
+in_mark : (m : List Bool) (xs : List ℕ) (j : ℕ) → get_or (mark_all m xs) j false ≡ true → (get_or m j false ≡ true) ⊎ Memᴰ j xs
+unfolding mark_all
 in_mark m [] j e = inl e
 in_mark m (x ∷ xs) j e =
-    ⊎_elim (λ l. by_eq j x (λ q. inr (Memᴰ.head q)) (λ q. inl (sym (get_or-set_other m x j 1 0 q) ∙ l))) (λ t. inr (Memᴰ.tail t))
-    (in_mark (set m x 1) xs j e)
+    ⊎_elim (λ l. by_eq j x (λ q. inr (Memᴰ.head q)) (λ q. inl (sym (get_or-set_other m x j true false q) ∙ l))) (λ t. inr (Memᴰ.tail t))
+    (in_mark (set m x true) xs j e)
 
-pub marks_skip : (code : List Bytecode) (k : ℕ) (m : List ℕ) → is_branch (at code k) ≡ false → Marking code k m → Marking code (k + 1) m
+pub marks_skip : (code : List Bytecode) (k : ℕ) (m : List Bool) → is_branch (at code k) ≡ false → Marking code k m → Marking code (k + 1) m
 marks_skip code k m e g = record {
   sound = g.sound;
   entry = g.entry;
@@ -186,7 +112,7 @@ marks_skip code k m e g = record {
   named = λ j o h b i. by_eq j k (λ q. absurd (true≢false (sym b ∙ ap (λ (x : ℕ). is_branch (at code x)) q ∙ e))) (λ q. g.named j o (omega arith) b i);
 }
 
-pub marks_more : (code : List Bytecode) → Sound code → (k : ℕ) (m : List ℕ) → k < length code → length code < length m → is_branch (at code k) ≡ true
+pub marks_more : (code : List Bytecode) → Sound code → (k : ℕ) (m : List Bool) → k < length code → length code < length m → is_branch (at code k) ≡ true
     → Marking code k m → Marking code (k + 1) (mark_all m ((k + 1) ∷ successors code k))
 marks_more code sound k m h room e g = record {
   sound = λ j l q. ⊎_elim (λ w. g.sound j l w) (λ i. ⊎_elim (λ s. behind j s l) (λ t. (succs_start code sound k j h last t).starts) (Memᴰ.cases_cons i))
@@ -225,20 +151,20 @@ names_branch r l i = go (eqb r.kind 4) (eqb r.kind 5) (is_flagged r) i
         or_end false = refl
     go false false false m = absurd (Memᴰ.not-nil m)
 
-pub marks_end : (code : List Bytecode) → Unique code → (m : List ℕ) → Marking code (length code) m → Marked code m
+pub marks_end : (code : List Bytecode) → Unique code → (m : List Bool) → Marking code (length code) m → Marked code m
 marks_end code once m g = record {
-  each = λ k h. by_test (λ b. starts code k ≡ b → eqb (get_or m k 0) 1 ≡ b) (starts code k)
-      (λ e q. eq-eqb (get_or m k 0) 1 (on k h e)) (λ e q. ne_eqb (get_or m k 0) 1 (λ s. true≢false (sym (g.sound k h s) ∙ e))) refl;
+  each = λ k h. by_test (λ b. starts code k ≡ b → get_or m k false ≡ b) (starts code k)
+      (λ e q. on k h e) (λ e q. by_test (λ b. get_or m k false ≡ b → b ≡ false) (get_or m k false) (λ t s. absurd (true≢false (sym (g.sound k h s) ∙ e))) (λ t s. refl) refl) refl;
 }
   where
-    on : (k : ℕ) → k < length code → starts code k ≡ true → get_or m k 0 ≡ 1
+    on : (k : ℕ) → k < length code → starts code k ≡ true → get_or m k false ≡ true
     on zero h e = g.entry
     on (suc k) h e =
         ⊎_elim (λ b. g.behind k (omega arith) h b) (λ t. label (in_any (λ l. is_named (lookup code l)) (label_of (at code (suc k))) t))
         (or-true (is_branch (at code k)) (any (λ l. is_named (lookup code l)) (label_of (at code (suc k)))) (unfold starts in e))
       where
         -- its Label is named: it is where that instruction goes
-        label : (l : ℕ) × Memᴰ l (label_of (at code (suc k))) × (is_named (lookup code l) ≡ true) → get_or m (suc k) 0 ≡ 1
+        label : (l : ℕ) × Memᴰ l (label_of (at code (suc k))) × (is_named (lookup code l) ≡ true) → get_or m (suc k) false ≡ true
         label (l, i, t) =
             let by = named_by code l t in
             g.named by.0 (suc k) by.1 (names_branch (at code by.0) l by.2)

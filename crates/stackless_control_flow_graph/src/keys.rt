@@ -1,160 +1,123 @@
 // The keys of the blocks: blocks by offset, at each the successors take keys first, then the block. Assumes nothing.
-ghost use Rattle.std.specs.Prelude.{◌≡◌, cond, List, [], ◌∷◌, ◌++◌, map, ℕ, ◌+◌, ◌*◌, ◌≤◌, ◌<◌, eqb, length, get_or, take};
-ghost use Rattle.base.specs.Lists.{gather};
+ghost use Rattle.std.specs.Prelude.{◌≡◌, [], ◌∷◌, ◌++◌, ◌<◌, ◌≤◌, length, take};
+ghost use Rattle.base.specs.Lists.{firsts};
 ghost use Rattle.base.specs.Sizes.{max_instructions};
-ghost use Rattle.base.specs.Numbering.{Numbers, Gives};
-ghost use Rattle.stackless_bytecode.specs.declared.Bytecode.{Bytecode};
-ghost use Rattle.stackless_bytecode.specs.Sound.{Sound};
-ghost use Rattle.sheet.specs.Layout.{code_of};
-ghost use Rattle.stackless_control_flow_graph.specs.Blocks.{keyed};
-ghost use Rattle.stackless_control_flow_graph.specs.Arrays.{no_offset, offset_in, offsets_of, succs_in, succ_keys_in, first_key, key_in, Near, takers, BlockArrays, BlocksFound, Numbered, CheckedSheet};
+ghost use Rattle.sheet.specs.Code.{code_in};
+ghost use Rattle.stackless_control_flow_graph.specs.Arrays.{offsets_of, Within, BlocksFound, next_keys};
+ghost use Rattle.stackless_control_flow_graph.specs.Blocks.{Start, blocks_of, keyed, key_of};
 ghost use Rattle.stackless_control_flow_graph.specs.Graph.{OffsetKeys};
 
 use crate::Successors;
-use crate::blocks::{block_at, find_blocks};
-use crate::starts::NO_OFFSET;
-use base::numbering::give_number;
-use base::width::u16_to_usize;
-
-// Stands for no successor.
-const NO_SUCCESSOR: usize = NO_OFFSET as usize;
+use crate::blocks::{BlockArrays, Blocks};
+use base::MAX_INSTRUCTIONS;
+use base::numbering::Numbering;
+use sheet::accepted::AcceptedSheet;
 
 // The key of the dummy exit; that of the dummy entrance is 0.
 pub const EXIT_KEY: u16 = 1;
 
-// The first key of a block.
-const FIRST_KEY: usize = 2;
+// The first key of a block: the others follow in the order of the numbers.
+const FIRST_KEY: u16 = 2;
 
-// The next key to offset o, where it is one and has none yet; how many offsets have keys then.
-fn give_key(c: usize, o: usize, keys: &mut [u16], lower_of_key: &mut [u16]) -> usize
-    requires { Numbers first_key keys.old lower_of_key.old c × ((o ≡ no_offset → ⊥) → o < length keys.old) × (length keys.old ≤ length lower_of_key.old) × (length keys.old ≤ max_instructions) }
-    ensures { Gives first_key (offset_in o) keys.old lower_of_key.old c keys.new lower_of_key.new result }
+// Numbers for the block from l on: its successors first, then the block.
+#[tactic(auto, using(crate::specs::NextLaws::one_below, crate::specs::NextLaws::two_below))]
+fn give_block(numbers: &mut Numbering<MAX_INSTRUCTIONS>, next: Successors, l: u16)
+    requires { (l < max_instructions) × Within max_instructions (offsets_of next) }
+    ensures { numbers.new ≡ firsts numbers.old (offsets_of next ++ (l ∷ [])) }
 {
-    if o == NO_SUCCESSOR {
-        return c;
+    match next {
+        Successors::None => {}
+        Successors::One(a) => numbers.give(a),
+        Successors::Two(a, b) => {
+            numbers.give(a);
+            numbers.give(b);
+        }
     }
-    give_number(FIRST_KEY, c, o, keys, lower_of_key)
+    numbers.give(l);
 }
 
-// Keys for the block from l to u: its successors first, then the block.
-fn number_block(
-    c: usize,
-    goes: &[u16],
-    l: usize,
-    u: usize,
-    keys: &mut [u16],
-    lower_of_key: &mut [u16],
-) -> usize
-    requires { Numbers first_key keys.old lower_of_key.old c × (l < length keys.old) × Near (length keys.old) goes.now u × (length keys.old ≤ length lower_of_key.old) × (length keys.old ≤ max_instructions) }
-    ensures { Gives first_key (succs_in goes.now u ++ (l ∷ [])) keys.old lower_of_key.old c keys.new lower_of_key.new result }
+// Numbers for all blocks: blocks by offset, at each its successors, then the block.
+fn give_all(numbers: &mut Numbering<MAX_INSTRUCTIONS>, blocks: Blocks<'_>)
+    requires { numbers.old ≡ [] }
+    ensures { numbers.new ≡ keyed (code_in blocks.entry.sheet) }
 {
-    let at = 2 * u;
-    let first = u16_to_usize(goes[at]);
-    let second = u16_to_usize(goes[at + 1]);
-    let d = give_key(c, first, keys, lower_of_key);
-    let e = give_key(d, second, keys, lower_of_key);
-    give_key(e, l, keys, lower_of_key)
-}
-
-// Keys for all m blocks: the key of each offset that starts one into `keys`, and these offsets in the order of their keys to the front of `lower_of_key`.
-fn number_blocks(
-    goes: &[u16],
-    lowers: &[u16],
-    m: usize,
-    uppers: &[u16],
-    keys: &mut [u16],
-    lower_of_key: &mut [u16],
-) -> usize
-    requires { BlockArrays goes.now lowers.now uppers.now m (length keys.old) × ((o : ℕ) → get_or keys.old o 0 ≡ 0) × (length keys.old ≤ length lower_of_key.old) × (length keys.old ≤ max_instructions) }
-    ensures { Gives first_key (gather (takers goes.now uppers.now) (take m lowers.now)) keys.old lower_of_key.old 0 keys.new lower_of_key.new result }
-{
-    let mut c = 0;
-    let mut b = 0;
-    while b < m {
-        let k = block_at(lowers, uppers, b);
-        c = number_block(c, goes, k.lower, k.upper, keys, lower_of_key);
-        b += 1;
+    for &lower in blocks.lowers() {
+        give_block(numbers, blocks.next(lower), lower);
     }
-    c
 }
 
-// The blocks of a sheet of n instructions, the offsets of whose labels are `targets`, and their keys: the successors of every offset, the lowers by offset, the upper of
-// every offset, the key of each lower and the lowers in the order of their keys; how many blocks.
+// The blocks of a sheet, and their numbers in the order of their keys.
 pub fn find_keys(
-    sheet: &[u8],
-    n: usize,
-    targets: &[u16],
-    goes: &mut [u16],
-    lowers: &mut [u16],
-    uppers: &mut [u16],
-    keys: &mut [u16],
-    lower_of_key: &mut [u16],
-) -> usize
-    requires { CheckedSheet sheet.now n targets.now × (2 * n ≤ length goes.old) × (n ≤ length lowers.old) × (n ≤ length uppers.old) × (length keys.old ≡ max_instructions) × ((o : ℕ) → get_or keys.old o 0 ≡ 0) × (max_instructions ≤ length lower_of_key.old) }
-    ensures { BlocksFound (code_of sheet.now) result goes.new lowers.new uppers.new × Numbered (code_of sheet.now) keys.new lower_of_key.new result }
+    sheet: AcceptedSheet<'_>,
+    arrays: &mut BlockArrays,
+    numbers: &mut Numbering<MAX_INSTRUCTIONS>,
+)
+    requires { numbers.old ≡ [] }
+    ensures found { BlocksFound (code_in sheet.entry) arrays.new.goes (take arrays.new.count arrays.new.lowers) arrays.new.uppers }
+    ensures keyed { numbers.new ≡ keyed (code_in sheet.entry) }
 {
-    let m = find_blocks(sheet, n, targets, goes, lowers, uppers);
-    number_blocks(goes, lowers, m, uppers, keys, lower_of_key);
-    m
+    arrays.find(sheet);
+    give_all(numbers, Blocks { sheet, arrays });
 }
 
-fn key_or(key: u16, last: u16) -> u16
-    ensures { result ≡ cond (eqb key 0) last key }
-{
-    if key == 0 {
-        return last;
-    }
-    key
+// The blocks of a sheet's code, and their keys.
+#[derive(Clone, Copy)]
+pub struct KeyedBlocks<'a> {
+    pub by_offset: Blocks<'a>,
+    pub numbers: &'a Numbering<MAX_INSTRUCTIONS>,
+    pub ghost keyed: { numbers.now ≡ keyed (code_in by_offset.sheet) },
 }
 
-// The key of the block of each of the first n offsets, where the lowers have theirs and the others 0: every other offset takes that of the offset before.
-pub fn spread_keys(keys: &mut [u16], n: usize)
-    requires { n ≤ length keys.old }
-    ensures { (code : List Bytecode) → Sound code → length code ≡ n → ((o : ℕ) → o < length code → get_or keys.old o 0 ≡ key_in (keyed code) o) → OffsetKeys code keys.new }
-{
-    let mut last = 0;
-    let mut k = 0;
-    while k < n {
-        last = key_or(keys[k], last);
-        keys[k] = last;
-        k += 1;
+impl<'a> KeyedBlocks<'a> {
+    // How many blocks.
+    pub fn count(self) -> usize
+        ensures blocks { result ≡ blocks_of (code_in self.entry.by_offset.sheet) }
+        ensures keys { result ≡ length (keyed (code_in self.entry.by_offset.sheet)) }
+        ensures few { result ≤ max_instructions }
+    {
+        self.numbers.order().len()
     }
-}
 
-// These keys, and behind them that of offset o, where it is one.
-fn with_key(e: Successors, o: u16, keys: &[u16]) -> Successors
-    requires { (e.count ≤ 1) × ((o ≡ no_offset → ⊥) → o < length keys.now) }
-    ensures { (offsets_of result ≡ offsets_of e ++ map (λ o. get_or keys.now o 0) (offset_in o)) × (result.count ≤ e.count + 1) }
-{
-    if o == NO_OFFSET {
-        return e;
+    // The lowers in the order of their keys.
+    pub fn lowers_by_key(self) -> &'a [u16]
+        ensures keyed { result.now ≡ keyed (code_in self.entry.by_offset.sheet) }
+        ensures few { length result.now ≤ max_instructions }
+    {
+        self.numbers.order()
     }
-    let key = keys[u16_to_usize(o)];
-    if e.count == 0 {
-        return Successors {
-            count: 1,
-            first: key,
-            second: 0,
-        };
-    }
-    Successors {
-        count: 2,
-        first: e.first,
-        second: key,
-    }
-}
 
-// The keys of the successors of offset u.
-pub fn successor_keys(goes: &[u16], u: usize, keys: &[u16]) -> Successors
-    requires { Near (length keys.now) goes.now u }
-    ensures { offsets_of result ≡ succ_keys_in keys.now goes.now u }
-{
-    let at = 2 * u;
-    let none = Successors {
-        count: 0,
-        first: 0,
-        second: 0,
-    };
-    let e = with_key(none, goes[at], keys);
-    with_key(e, goes[at + 1], keys)
+    // The key of the block from `lower` on.
+    #[tactic(auto, unfolding(crate::specs::Blocks::key_of))]
+    pub fn key(self, lower: u16) -> u16
+        requires { Start (code_in self.by_offset.sheet) lower }
+        ensures { result ≡ key_of (keyed (code_in self.entry.by_offset.sheet)) lower }
+    {
+        FIRST_KEY + self.numbers.number_of(lower)
+    }
+
+    // The keys of the blocks that the block from `lower` on goes to.
+    pub fn next_keys(self, lower: u16) -> Successors
+        requires { Start (code_in self.by_offset.sheet) lower }
+        ensures { offsets_of result ≡ next_keys (code_in self.entry.by_offset.sheet) lower }
+    {
+        match self.by_offset.next(lower) {
+            Successors::None => Successors::None,
+            Successors::One(a) => Successors::One(self.key(a)),
+            Successors::Two(a, b) => Successors::Two(self.key(a), self.key(b)),
+        }
+    }
+
+    // The key of the block of each offset: an offset that is no lower takes that of the offset before.
+    pub fn spread_keys(self, key_of_offset: &mut [u16])
+        requires { self.by_offset.sheet.count ≤ length key_of_offset.old }
+        ensures { OffsetKeys (code_in self.entry.by_offset.sheet) key_of_offset.new }
+    {
+        let mut last = 0;
+        for k in 0..self.by_offset.sheet.count {
+            if let Some(number) = self.numbers.number(k as u16) {
+                last = FIRST_KEY + number;
+            }
+            key_of_offset[k] = last;
+        }
+    }
 }

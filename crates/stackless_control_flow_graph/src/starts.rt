@@ -1,70 +1,53 @@
 // One pass over the instructions: the successors of each offset, and where blocks start. Assumes nothing.
-ghost use Rattle.std.specs.Prelude.{◌≡◌, ◌∷◌, ℕ, ◌+◌, ◌*◌, ◌≤◌, ◌<◌, length, get_or};
-ghost use Rattle.sheet.specs.Layout.{code_of};
-ghost use Rattle.stackless_control_flow_graph.specs.Arrays.{offsets_of, put_two, mark_all, Within, SuccessorsTo, Marked, Visits, CheckedSheet};
+ghost use Rattle.std.specs.Prelude.{◌≡◌, false, ◌∷◌, ℕ, ◌+◌, ◌≤◌, ◌<◌, length, get_or};
+ghost use Rattle.stackless_control_flow_graph.specs.Arrays.{offsets_of, mark_all, Within, SuccessorsTo, Marked, Visits};
+ghost use Rattle.sheet.specs.Code.{code_in};
 
 use crate::Successors;
-use crate::next::{by_kind, first_or, second_or, single};
-use base::width::{u16_to_usize, usize_to_u16};
-use sheet::reader;
-
-// Stands for no offset.
-pub const NO_OFFSET: u16 = 65535;
-
-// The successors of offset k into its two places.
-fn put_two(goes: &mut [u16], k: usize, e: Successors)
-    requires { 2 * k + 1 < length goes.old }
-    ensures { goes.new ≡ put_two goes.old k (offsets_of e) }
-{
-    let at = 2 * k;
-    goes[at] = first_or(e, NO_OFFSET);
-    goes[at + 1] = second_or(e, NO_OFFSET);
-}
+use crate::next::by_kind;
+use sheet::accepted::AcceptedSheet;
 
 // Blocks start at `next` and at these successors.
-fn mark_starts(marks: &mut [u8], next: usize, e: Successors)
-    requires { Within (length marks.old) (next ∷ offsets_of e) }
+#[tactic(auto, unfolding(crate::specs::Arrays::mark_all))]
+fn mark_starts(marks: &mut [bool], next: usize, e: Successors)
+    requires { (next < length marks.old) × Within (length marks.old) (offsets_of e) }
     ensures { marks.new ≡ mark_all marks.old (next ∷ offsets_of e) }
 {
-    marks[next] = 1;
-    if e.count == 0 {
-        return;
+    marks[next] = true;
+    match e {
+        Successors::None => {}
+        Successors::One(a) => marks[usize::from(a)] = true,
+        Successors::Two(a, b) => {
+            marks[usize::from(a)] = true;
+            marks[usize::from(b)] = true;
+        }
     }
-    let first = u16_to_usize(e.first);
-    marks[first] = 1;
-    if e.count == 1 {
-        return;
-    }
-    let second = u16_to_usize(e.second);
-    marks[second] = 1;
 }
 
-// The successors of offset k into their places, and the blocks that it starts.
-fn visit(sheet: &[u8], n: usize, targets: &[u16], k: usize, goes: &mut [u16], marks: &mut [u8])
-    requires { CheckedSheet sheet.now n targets.now × (k < n) × (2 * n ≤ length goes.old) × (n < length marks.old) }
-    ensures { Visits (code_of sheet.now) k goes.old marks.old goes.new marks.new }
+// The successors of offset k into their place, and the blocks that it starts.
+fn visit(sheet: AcceptedSheet<'_>, k: usize, goes: &mut [Successors], marks: &mut [bool])
+    requires { (k < sheet.count) × (sheet.count ≤ length goes.old) × (sheet.count < length marks.old) }
+    ensures { Visits (code_in sheet.entry) k goes.old marks.old goes.new marks.new }
 {
-    let r = reader::instruction_at(sheet, k);
+    let r = sheet.instruction(k);
     let next = k + 1;
     if !r.is_branch() {
-        put_two(goes, k, single(usize_to_u16(next)));
+        goes[k] = Successors::One(next as u16);
         return;
     }
     let at = 2 * k;
-    let e = by_kind(r, targets[at], targets[at + 1], usize_to_u16(next));
-    put_two(goes, k, e);
+    let e = by_kind(r, sheet.targets[at], sheet.targets[at + 1], next as u16);
+    goes[k] = e;
     mark_starts(marks, next, e);
 }
 
-// The successors of every offset, and 1 where a block starts: at 0, at the successors of whatever branches, and behind it.
-pub fn visit_all(sheet: &[u8], n: usize, targets: &[u16], goes: &mut [u16], marks: &mut [u8])
-    requires { CheckedSheet sheet.now n targets.now × (2 * n ≤ length goes.old) × (n < length marks.old) × ((j : ℕ) → get_or marks.old j 0 ≡ 0) }
-    ensures { SuccessorsTo (code_of sheet.now) n goes.new × Marked (code_of sheet.now) marks.new }
+// The successors of every offset, and marks where a block starts: at 0, at the successors of whatever branches, and behind it.
+pub fn visit_all(sheet: AcceptedSheet<'_>, goes: &mut [Successors], marks: &mut [bool])
+    requires { (sheet.count ≤ length goes.old) × (sheet.count < length marks.old) × ((j : ℕ) → get_or marks.old j false ≡ false) }
+    ensures { SuccessorsTo (code_in sheet.entry) sheet.entry.count goes.new × Marked (code_in sheet.entry) marks.new }
 {
-    marks[0] = 1;
-    let mut k = 0;
-    while k < n {
-        visit(sheet, n, targets, k, goes, marks);
-        k += 1;
+    marks[0] = true;
+    for k in 0..sheet.count {
+        visit(sheet, k, goes, marks);
     }
 }

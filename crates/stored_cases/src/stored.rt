@@ -1,63 +1,79 @@
 // The head and the rows of the file of stored answers. Assumes nothing.
-ghost use Rattle.std.specs.Prelude.{◌≡◌, ◌-◌, ◌*◌, ◌≤◌, length};
+ghost use Rattle.std.specs.Prelude.{◌≡◌, ◌+◌, ◌*◌, ◌≤◌, length, ◌<◌, IfSome, IfNone};
+ghost use Rattle.base.specs.Bytes.{part};
 
-use check::same;
+use crate::op::Op;
 use sheet::reader::u32_at;
 
 pub const HEAD_BYTES: usize = 16;
 
 pub const ROW_BYTES: usize = 40;
 
-// A case: its op, whether its answer was made wrong, how much is lent, the stored result, and where the three packed strings stand.
+// Where a packed string stands in the file.
+#[derive(Clone, Copy)]
+pub struct Place {
+    pub from: usize,
+    pub long: usize,
+}
+
+impl Place {
+    // Its bytes, where the file has them.
+    pub fn part(self, file: &[u8]) -> Option<&[u8]>
+        ensures part { IfSome result (λ p. p.now ≡ part file.now self.from self.long) }
+        ensures outside { IfNone result (length file.now < self.from + self.long) }
+    {
+        file.get(self.from..)?.get(..self.long)
+    }
+}
+
+// A case: its op, if its number is one's, whether its answer was made wrong, how much is lent, the stored result, and where the three packed strings stand.
 #[derive(Clone, Copy)]
 pub struct Row {
-    pub op: u8,
+    pub op: Option<Op>,
     pub wrong: bool,
     pub lent: usize,
     pub result: u64,
-    pub input: usize,
-    pub input_long: usize,
-    pub second: usize,
-    pub second_long: usize,
-    pub written: usize,
-    pub written_long: usize,
+    pub input: Place,
+    pub second: Place,
+    pub written: Place,
 }
 
-// The number of cases; 0 where the file has none, or is cut off or damaged.
-pub fn cases_in(file: &[u8]) -> usize
-    ensures { 40 * result ≤ length file.now - 16 }
+// The number of cases; none where the file has no case, or is cut off or damaged.
+pub fn cases_in(file: &[u8]) -> Option<usize>
+    ensures { IfSome result (λ n. 16 + 40 * n ≤ length file.now) }
 {
-    if file.len() < HEAD_BYTES {
-        return 0;
-    }
-    if !same(&file[0..8], b"replay 1") {
-        return 0;
-    }
-    if u32_at(file, 12) as usize != file.len() {
-        return 0;
+    if file.len() < HEAD_BYTES || !file.starts_with(b"replay 1") {
+        return None;
     }
     let n = u32_at(file, 8) as usize;
-    if file.len() - HEAD_BYTES < ROW_BYTES * n {
-        return 0;
+    let long = u32_at(file, 12) as usize;
+    if n == 0 || long != file.len() || long - HEAD_BYTES < ROW_BYTES * n {
+        return None;
     }
-    n
+    Some(n)
+}
+
+// The place in the eight bytes from `at` on.
+fn place_at(p: &[u8], at: usize) -> Place
+    requires { at + 8 ≤ length p.now }
+{
+    Place {
+        from: u32_at(p, at) as usize,
+        long: u32_at(p, at + 4) as usize,
+    }
 }
 
 // The case that a row's bytes are.
 pub fn row_of(p: &[u8]) -> Row
     requires { length p.now ≡ 40 }
 {
-    let result = u32_at(p, 8) as u64 + 4294967296 * (u32_at(p, 12) as u64);
     Row {
-        op: p[0] % 128,
+        op: Op::try_from(p[0] % 128).ok(),
         wrong: p[0] >= 128,
         lent: u32_at(p, 4) as usize,
-        result,
-        input: u32_at(p, 16) as usize,
-        input_long: u32_at(p, 20) as usize,
-        second: u32_at(p, 24) as usize,
-        second_long: u32_at(p, 28) as usize,
-        written: u32_at(p, 32) as usize,
-        written_long: u32_at(p, 36) as usize,
+        result: u64::from_le_bytes(*p[8..].first_chunk().unwrap()),
+        input: place_at(p, 16),
+        second: place_at(p, 24),
+        written: place_at(p, 32),
     }
 }

@@ -1,123 +1,92 @@
-// Counts, and what is printed. Assumes nothing.
+// Counts of what came, and what is printed. Assumes nothing.
+use crate::op::Op;
 use std::io;
-use std::num::wrapping_add_u32;
 
-// What came of a case: the call answered as it is stored; otherwise; or the case cannot be asked.
+// A case that was asked: its op, whether its answer was made wrong, and whether the call answered as it is stored.
 #[derive(Clone, Copy)]
-pub enum Came {
-    Same,
-    Other,
-    Damaged,
+pub struct Asked {
+    pub op: Op,
+    pub wrong: bool,
+    pub same: bool,
 }
 
-// One above the highest op.
-const OPS: usize = 11;
+// What is printed of each op: its name, and what it is asked of.
+const LINES: [(Op, &str, &str); 10] = [
+    (Op::Flow, "flow", "sheets"),
+    (Op::Live, "live", "sheets"),
+    (Op::Rewrite, "rewrite", "sheets"),
+    (Op::InUse, "in use", "graphs"),
+    (Op::Conditional, "conditional", "graphs"),
+    (Op::Dying, "dying", "graphs"),
+    (Op::Check, "check", "sheets"),
+    (Op::Renumber, "renumber", "sheets"),
+    (Op::Label, "label", "sheets"),
+    (Op::LiveClass, "live class", "class sets"),
+];
 
-// A count for each op, and behind them those of all cases, of differences, and of the cases made wrong and found.
-pub const COUNTS: usize = OPS + 4;
+// The cases of each op, by its number; those of all; the differences; and the cases made wrong, and found.
+#[derive(Clone, Copy)]
+pub struct Tally {
+    of_op: [u32; LINES.len() + 1],
+    cases: u32,
+    differences: u32,
+    wrong: u32,
+    found: u32,
+}
 
-const CASES: usize = OPS;
+fn add(count: &mut u32) {
+    *count = count.wrapping_add(1);
+}
 
-const DIFFERENCES: usize = OPS + 1;
-
-const WRONG: usize = OPS + 2;
-
-const FOUND: usize = OPS + 3;
-
-fn add(counts: &mut [u32], i: usize) {
-    if i < counts.len() {
-        counts[i] = wrapping_add_u32(counts[i], 1);
+impl Tally {
+    pub fn new() -> Tally {
+        Tally {
+            of_op: [0; LINES.len() + 1],
+            cases: 0,
+            differences: 0,
+            wrong: 0,
+            found: 0,
+        }
     }
-}
 
-fn get(counts: &[u32], i: usize) -> u32 {
-    if i < counts.len() {
-        return counts[i];
+    // The file has no cases to ask.
+    pub fn damaged_file(&mut self, rt: &impl Print) -> io::Result<()> {
+        add(&mut self.differences);
+        println!(rt; "damaged")
     }
-    0
-}
 
-// A line that counts as a difference.
-pub fn say(rt: &impl Print, counts: &mut [u32], text: &[u8]) -> io::Result<()> {
-    add(counts, DIFFERENCES);
-    rt.write_all(text)
-}
-
-fn say_case(rt: &impl Print, counts: &mut [u32], text: &[u8], k: usize) -> io::Result<()> {
-    say(rt, counts, text)?;
-    rt.println(k)
-}
-
-// Case k was asked as it stands.
-fn count_case(rt: &impl Print, counts: &mut [u32], k: usize, op: u8, same: bool) -> io::Result<()> {
-    add(counts, CASES);
-    add(counts, op as usize);
-    if same {
-        return Ok(());
+    // A line on case k that counts as a difference.
+    fn difference(&mut self, rt: &impl Print, said: &str, k: usize) -> io::Result<()> {
+        add(&mut self.differences);
+        println!(rt; "{said} case {k}")
     }
-    say_case(rt, counts, b"difference in case ", k)
-}
 
-// Case k was asked with an answer made wrong.
-fn count_wrong(rt: &impl Print, counts: &mut [u32], k: usize, same: bool) -> io::Result<()> {
-    add(counts, WRONG);
-    if same {
-        return say_case(rt, counts, b"not found in case ", k);
+    // What came of case k, which was asked or is damaged.
+    pub fn count(&mut self, rt: &impl Print, k: usize, came: Option<Asked>) -> io::Result<()> {
+        let Some(asked) = came else {
+            return self.difference(rt, "damaged", k);
+        };
+        if asked.wrong {
+            add(&mut self.wrong);
+            if asked.same {
+                return self.difference(rt, "not found in", k);
+            }
+            add(&mut self.found);
+            return Ok(());
+        }
+        add(&mut self.cases);
+        add(&mut self.of_op[asked.op as usize]);
+        if !asked.same {
+            return self.difference(rt, "difference in", k);
+        }
+        Ok(())
     }
-    add(counts, FOUND);
-    Ok(())
-}
 
-fn count_asked(
-    rt: &impl Print,
-    counts: &mut [u32],
-    k: usize,
-    op: u8,
-    wrong: bool,
-    same: bool,
-) -> io::Result<()> {
-    if wrong {
-        count_wrong(rt, counts, k, same)
-    } else {
-        count_case(rt, counts, k, op, same)
+    pub fn print(&self, rt: &impl Print) -> io::Result<()> {
+        for (op, name, asked) in LINES {
+            println!(rt; "{name} {} {asked}", self.of_op[op as usize])?;
+        }
+        println!(rt; "{} cases, {} differences", self.cases, self.differences)?;
+        println!(rt; "{} made wrong, {} found", self.wrong, self.found)
     }
-}
-
-// What came of case k.
-pub fn count(
-    rt: &impl Print,
-    counts: &mut [u32],
-    k: usize,
-    op: u8,
-    wrong: bool,
-    came: Came,
-) -> io::Result<()> {
-    match came {
-        Came::Same => count_asked(rt, counts, k, op, wrong, true),
-        Came::Other => count_asked(rt, counts, k, op, wrong, false),
-        Came::Damaged => say_case(rt, counts, b"damaged case ", k),
-    }
-}
-
-fn line(rt: &impl Print, name: &[u8], n: u32, unit: &[u8]) -> io::Result<()> {
-    rt.write_all(name)?;
-    rt.print(n)?;
-    rt.write_all(unit)
-}
-
-pub fn print_counts(rt: &impl Print, counts: &[u32]) -> io::Result<()> {
-    line(rt, b"flow ", get(counts, 1), b" sheets\n")?;
-    line(rt, b"live ", get(counts, 2), b" sheets\n")?;
-    line(rt, b"rewrite ", get(counts, 3), b" sheets\n")?;
-    line(rt, b"in use ", get(counts, 4), b" graphs\n")?;
-    line(rt, b"conditional ", get(counts, 5), b" graphs\n")?;
-    line(rt, b"dying ", get(counts, 6), b" graphs\n")?;
-    line(rt, b"check ", get(counts, 7), b" sheets\n")?;
-    line(rt, b"renumber ", get(counts, 8), b" sheets\n")?;
-    line(rt, b"label ", get(counts, 9), b" sheets\n")?;
-    line(rt, b"live class ", get(counts, 10), b" class sets\n")?;
-    line(rt, b"", get(counts, CASES), b" cases, ")?;
-    line(rt, b"", get(counts, DIFFERENCES), b" differences\n")?;
-    line(rt, b"", get(counts, WRONG), b" made wrong, ")?;
-    line(rt, b"", get(counts, FOUND), b" found\n")
 }

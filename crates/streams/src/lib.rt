@@ -1,58 +1,27 @@
 // A reader, such as standard input, read to its end. Assumes nothing.
 #![tactic(auto)]
 
-ghost use Rattle.std.specs.Prelude.{◌≡◌, ◌≤◌, length, IfOk, IfErr};
-ghost use Rattle.streams.specs.declared.Input.TheVariants.{Bytes, Failed};
-ghost use Rattle.streams.specs.Input.{bytes_read};
+ghost use Rattle.std.specs.Prelude.{◌≤◌, length, IfOk};
 
 use std::io;
 use std::io::Read;
 
-// What was read: so many bytes, or a read failed.
-#[derive(Clone, Copy)]
-pub enum Input {
-    Bytes(usize),
-    Failed,
-}
-
-impl Input {
-    // How many bytes, for a program that ends where a read failed.
-    pub fn count(self) -> io::Result<usize>
-        ensures read { IfOk result (λ n. self ≡ Bytes n) }
-        ensures failed { IfErr result (λ _. self ≡ Failed) }
-    {
-        match self {
-            Input::Bytes(n) => Ok(n),
-            Input::Failed => Err(io::Error::other("standard input cannot be read")),
-        }
-    }
-}
-
-// One read; 0 bytes at the end of the input.
-fn read_some<R: Read>(from: &mut R, buf: &mut [u8]) -> Input
-    ensures { bytes_read result ≤ length buf.old }
-{
-    match from.read(buf) {
-        Ok(n) => Input::Bytes(n),
-        Err(_) => Input::Failed,
-    }
-}
-
-// Reads until `buf` is full or the input ends; a read that fails is not taken for the end. What was read stands at the front of `buf`.
-pub fn read_input<R: Read>(from: &mut R, buf: &mut [u8]) -> Input
-    ensures { bytes_read result ≤ length buf.old }
+// Reads until `buf` is full or the input ends: how many bytes now stand at the front of `buf`. A read that fails is not taken for the end.
+pub fn read_input<R: Read>(from: &mut R, buf: &mut [u8]) -> io::Result<usize>
+    ensures { IfOk result (λ n. n ≤ length buf.old) }
 {
     let mut done = 0;
+    // No range: a read may give less than there is room for.
     while done < buf.len() {
-        let Input::Bytes(more) = read_some(from, &mut buf[done..]) else {
-            return Input::Failed;
+        let Ok(more) = from.read(&mut buf[done..]) else {
+            return Err(io::Error::other("standard input cannot be read"));
         };
         if more == 0 {
-            return Input::Bytes(done);
+            break;
         }
         done += more;
     }
-    Input::Bytes(done)
+    Ok(done)
 }
 
 #[cfg(test)]
@@ -84,7 +53,7 @@ mod tests {
         let mut room = [0u8; 4];
         let bytes = [7u8, 8, 9];
         let mut from = bytes.as_slice();
-        assert!(rt; matches!(read_input(&mut from, &mut room), Input::Bytes(3)));
+        assert!(rt; matches!(read_input(&mut from, &mut room), Ok(3)));
         assert_eq!(rt; room, [7, 8, 9, 0]);
     }
 
@@ -92,15 +61,15 @@ mod tests {
     fn a_failing_read_is_not_the_end(rt: HostRuntime) {
         let mut room = [0u8; 4];
         let mut from = Failing { left: 3 };
-        assert!(rt; matches!(read_input(&mut from, &mut room), Input::Failed));
-        assert!(rt; read_input(&mut from, &mut room).count().is_err());
+        assert!(rt; read_input(&mut from, &mut room).is_err());
+        assert!(rt; read_input(&mut from, &mut room).is_err());
     }
 
     #[test]
     fn a_full_buffer_asks_no_more(rt: HostRuntime) {
         let mut room = [0u8; 4];
         let mut from = Failing { left: 4 };
-        assert!(rt; matches!(read_input(&mut from, &mut room), Input::Bytes(4)));
+        assert!(rt; matches!(read_input(&mut from, &mut room), Ok(4)));
         assert_eq!(rt; room, [3, 2, 1, 0]);
     }
 }

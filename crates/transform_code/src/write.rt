@@ -1,25 +1,23 @@
 // The new code by its plan, record behind record: the kept instructions, then the block of each edge that loses references. Assumes nothing.
-ghost use Rattle.std.specs.Prelude.{◌≡◌, cond, ◌+◌, ◌*◌, ◌/◌, ◌<◌, ◌≤◌, eqb, length};
+ghost use Rattle.std.specs.Prelude.{◌≡◌, cond, map, ◌+◌, ◌*◌, ◌/◌, ◌<◌, ◌≤◌, eqb, length};
 ghost use Rattle.std.specs.Int.Count.{ones};
-ghost use Rattle.base.specs.Sizes.{set_words, max_locals, max_number, max_instructions, record_bytes};
+ghost use Rattle.base.specs.Sizes.{max_locals, max_number, max_instructions, record_bytes};
 ghost use Rattle.base.specs.Lists.{joins};
-ghost use Rattle.base.specs.Refusals.{Accepted};
-ghost use Rattle.dataflow_domains.specs.Sets.{mask, stored_set};
+ghost use Rattle.dataflow_domains.specs.Sets.{mask};
 ghost use Rattle.dataflow_domains.specs.Members.{members};
-ghost use Rattle.sheet.specs.Layout.{count_of, code_of, instruction_at};
-ghost use Rattle.sheet.specs.Checks.{check_sheet};
+ghost use Rattle.stackless_bytecode.specs.Kinds.{at};
+ghost use Rattle.sheet.specs.Layout.{code_of};
 ghost use Rattle.sheet_writer.specs.Written.{placed};
 ghost use Rattle.livevar_transform.specs.Rewrite.{destroys, destroy_block, target_of};
-ghost use Rattle.livevar_transform.specs.Plan.{EdgeTable, PlanTables, NewBlockRoom, BlockFits, LabelsFit, Fitting, NextBelow, next_room, LowNext, lost_at, past, goes_at, aimed_at, stands_at, kept_at, added_at, kept_by, added_by, code_by};
+ghost use Rattle.livevar_transform.specs.Plan.{NewBlockRoom, BlockFits, LabelsFit, Fitting, NextBelow, next_room, LowNext, lost_at, past, goes_at, aimed_at, stands_at, kept_at, added_at, kept_by, added_by, code_by};
 
 use base::RECORD_BYTES;
-use base::width::u32_to_u16;
 use dataflow_domains::LiveVarState;
 use livevar_transform::instructions::{destroy, mark, with_dsts, with_labels};
-use livevar_transform::plan::{DROPPED, MERGED, Next, past_both};
-use sheet::reader::instruction_at;
+use livevar_transform::plan::{Fate, Next, Plan};
+use sheet::accepted::AcceptedSheet;
 use sheet_writer::writer::encode;
-use stackless_bytecode::Bytecode;
+use stackless_bytecode::{Bytecode, Kind};
 
 // The label that an edge goes to: a new one where it loses references.
 fn goes_to(old: u16, lost: LiveVarState, label: u32) -> u16
@@ -29,16 +27,18 @@ fn goes_to(old: u16, lost: LiveVarState, label: u32) -> u16
     if lost.is_empty() {
         return old;
     }
-    u32_to_u16(label)
+    label as u16
 }
 
 // The Branch r at offset k, aimed at the labels that its edges go to, then before else.
-fn aim(lost: &[u64], k: usize, next: Next, r: Bytecode) -> Bytecode
-    requires { NextBelow next_room next × ((2 * k + 2) * set_words ≤ length lost.now) × LabelsFit lost.now k next }
-    ensures { result ≡ aimed_at lost.now k next r }
+fn aim(plan: Plan, k: usize, next: Next, r: Bytecode) -> Bytecode
+    requires inside { k < plan.sheet.count }
+    requires below { NextBelow next_room next }
+    requires labels { LabelsFit (map mask plan.arrays.now.lost) k next }
+    ensures { result ≡ aimed_at (map mask plan.entry.arrays.now.lost) k next r }
 {
-    let then = LiveVarState::load(lost, 2 * k);
-    let other = LiveVarState::load(lost, 2 * k + 1);
+    let then = plan.lost(2 * k);
+    let other = plan.lost(2 * k + 1);
     let one = goes_to(r.one, then, next.label);
     let second = next.past(then);
     let two = goes_to(r.two, other, second.label);
@@ -46,63 +46,55 @@ fn aim(lost: &[u64], k: usize, next: Next, r: Bytecode) -> Bytecode
 }
 
 // What stands for offset k, if it is kept.
-fn stands_for(s: &[u8], fates: &[u8], lost: &[u64], n: usize, k: usize, next: Next) -> Bytecode
-    requires { PlanTables s.now fates.now lost.now n × (k < n) × NextBelow next_room next × LabelsFit lost.now k next }
-    ensures { result ≡ stands_at (code_of s.now) fates.now lost.now k next }
+fn stands_for(plan: Plan, k: usize, next: Next) -> Bytecode
+    requires inside { k < plan.sheet.count }
+    requires below { NextBelow next_room next }
+    requires labels { LabelsFit (map mask plan.arrays.now.lost) k next }
+    ensures { result ≡ stands_at (code_of plan.entry.sheet.bytes.now) plan.entry.arrays.now.fates (map mask plan.entry.arrays.now.lost) k next }
 {
-    let r = instruction_at(s, k);
-    if r.kind == 4 {
-        return aim(lost, k, next, r);
+    let r = plan.sheet.instruction(k);
+    if r.is(Kind::Branch) {
+        return aim(plan, k, next, r);
     }
-    if fates[k] == MERGED {
-        let a = instruction_at(s, k + 1);
-        let dsts = a.dsts;
-        return with_dsts(r, dsts);
+    if plan.arrays.fates[k] == Fate::Merged {
+        let a = plan.sheet.instruction(k + 1);
+        return with_dsts(r, a.dsts);
     }
     r
 }
 
 // The record of offset k at the front of `out`, if it is kept; how many that is.
-fn put_kept(
-    s: &[u8],
-    fates: &[u8],
-    lost: &[u64],
-    n: usize,
-    k: usize,
-    next: Next,
-    out: &mut [u8],
-) -> usize
-    requires { PlanTables s.now fates.now lost.now n × (k < n) × NextBelow next_room next × LabelsFit lost.now k next × (record_bytes ≤ length out.old) }
-    ensures { (result ≡ length (kept_at (code_of s.now) fates.now lost.now k next)) × (result ≤ 1) × (out.new ≡ placed (kept_at (code_of s.now) fates.now lost.now k next) out.old) }
+fn put_kept(plan: Plan, k: usize, next: Next, out: &mut [u8]) -> usize
+    requires inside { k < plan.sheet.count }
+    requires below { NextBelow next_room next }
+    requires labels { LabelsFit (map mask plan.arrays.now.lost) k next }
+    requires room { record_bytes ≤ length out.old }
+    ensures long { result ≡ length (kept_at (code_of plan.entry.sheet.bytes.now) plan.entry.arrays.now.fates (map mask plan.entry.arrays.now.lost) k next) }
+    ensures low { result ≤ 1 }
+    ensures written { out.new ≡ placed (kept_at (code_of plan.entry.sheet.bytes.now) plan.entry.arrays.now.fates (map mask plan.entry.arrays.now.lost) k next) out.old }
 {
-    if fates[k] == DROPPED {
+    if plan.arrays.fates[k] == Fate::Dropped {
         return 0;
     }
-    let r = stands_for(s, fates, lost, n, k, next);
+    let r = stands_for(plan, k, next);
     encode(r, &mut out[0..RECORD_BYTES]);
     1
 }
 
 // All kept instructions, by offset; how many they are.
-fn put_all_kept(
-    s: &[u8],
-    fates: &[u8],
-    lost: &[u64],
-    n: usize,
-    first: Next,
-    out: &mut [u8],
-) -> usize
-    requires { PlanTables s.now fates.now lost.now n × Fitting lost.now n first × LowNext first × (record_bytes * max_instructions ≤ length out.old) }
-    ensures { (result ≡ length (joins n (kept_by (code_of s.now) fates.now lost.now first))) × (out.new ≡ placed (joins n (kept_by (code_of s.now) fates.now lost.now first)) out.old) }
+fn put_all_kept(plan: Plan, first: Next, out: &mut [u8]) -> usize
+    requires fits { Fitting (map mask plan.arrays.now.lost) plan.sheet.count first }
+    requires low { LowNext first }
+    requires room { record_bytes * max_instructions ≤ length out.old }
+    ensures long { result ≡ length (joins plan.entry.sheet.count (kept_by (code_of plan.entry.sheet.bytes.now) plan.entry.arrays.now.fates (map mask plan.entry.arrays.now.lost) first)) }
+    ensures written { out.new ≡ placed (joins plan.entry.sheet.count (kept_by (code_of plan.entry.sheet.bytes.now) plan.entry.arrays.now.fates (map mask plan.entry.arrays.now.lost) first)) out.old }
 {
     let mut next = first;
     let mut m = 0;
-    let mut k = 0;
-    while k < n {
+    for k in 0..plan.sheet.count {
         let at = RECORD_BYTES * m;
-        m += put_kept(s, fates, lost, n, k, next, &mut out[at..]);
-        next = past_both(lost, k, next);
-        k += 1;
+        m += put_kept(plan, k, next, &mut out[at..]);
+        next = plan.past_both(k, next);
     }
     m
 }
@@ -114,14 +106,13 @@ fn put_destroys(lost: LiveVarState, first: u32, out: &mut [u8])
 {
     let mut left = lost;
     let mut i = 0u32;
-    while !left.is_empty() {
-        let least = left.take_lowest();
+    while let Some((local, rest)) = left.split_lowest() {
         let at = RECORD_BYTES * i as usize;
         encode(
-            destroy(u32_to_u16(first + i), least.local),
+            destroy((first + i) as u16, local),
             &mut out[at..at + RECORD_BYTES],
         );
-        left = least.rest;
+        left = rest;
         i += 1;
     }
 }
@@ -134,23 +125,23 @@ fn put_block(next: Next, target: u16, lost: LiveVarState, out: &mut [u8])
     let count = lost.ones();
     let attr = next.attr;
     encode(
-        mark(6, u32_to_u16(attr), u32_to_u16(next.label)),
+        mark(Kind::Label as u8, attr as u16, next.label as u16),
         &mut out[0..RECORD_BYTES],
     );
     put_destroys(lost, attr + 1, &mut out[RECORD_BYTES..]);
     let at = RECORD_BYTES * (1 + count as usize);
     encode(
-        mark(5, u32_to_u16(attr + 1 + count), target),
+        mark(Kind::Jump as u8, (attr + 1 + count) as u16, target),
         &mut out[at..at + RECORD_BYTES],
     );
 }
 
 // The label that edge e goes to in the old code.
-fn target_of(s: &[u8], n: usize, e: usize) -> u16
-    requires { (check_sheet s.now ≡ Accepted) × (n ≡ count_of s.now) × (e < 2 * n) }
-    ensures { result ≡ target_of (code_of s.now) e }
+fn target_of(sheet: AcceptedSheet, e: usize) -> u16
+    requires { e < 2 * sheet.count }
+    ensures { result ≡ target_of (code_of sheet.entry.bytes.now) e }
 {
-    let r = instruction_at(s, e / 2);
+    let r = sheet.instruction(e / 2);
     if e % 2 == 0 {
         return r.one;
     }
@@ -158,39 +149,45 @@ fn target_of(s: &[u8], n: usize, e: usize) -> u16
 }
 
 // The block of edge e at the front of `out`, if it loses references; the numbers behind it.
-fn put_edge(s: &[u8], lost: &[u64], n: usize, e: usize, next: Next, out: &mut [u8]) -> Next
-    requires { (check_sheet s.now ≡ Accepted) × (n ≡ count_of s.now) × (e < 2 * n) × (set_words * e + set_words ≤ length lost.now) × NextBelow next_room next × BlockFits (lost_at lost.now e) next (length out.old) }
-    ensures { (result ≡ past next (lost_at lost.now e)) × (out.new ≡ placed (added_at (code_of s.now) lost.now e next) out.old) }
+fn put_edge(plan: Plan, e: usize, next: Next, out: &mut [u8]) -> Next
+    requires inside { e < 2 * plan.sheet.count }
+    requires below { NextBelow next_room next }
+    requires fits { BlockFits (lost_at (map mask plan.arrays.now.lost) e) next (length out.old) }
+    ensures next { result ≡ past next (lost_at (map mask plan.entry.arrays.now.lost) e) }
+    ensures written { out.new ≡ placed (added_at (code_of plan.entry.sheet.bytes.now) (map mask plan.entry.arrays.now.lost) e next) out.old }
 {
-    let gone = LiveVarState::load(lost, e);
+    let gone = plan.lost(e);
     if gone.is_empty() {
         return next.past(gone);
     }
-    let target = target_of(s, n, e);
+    let target = target_of(plan.sheet, e);
     put_block(next, target, gone, out);
     next.past(gone)
 }
 
 // All blocks, by edge.
-fn put_all_blocks(s: &[u8], lost: &[u64], n: usize, first: Next, out: &mut [u8])
-    requires { EdgeTable s.now lost.now n × Fitting lost.now n first × LowNext first × (record_bytes * length (joins (2 * n) (added_by (code_of s.now) lost.now first)) ≤ length out.old) }
-    ensures { out.new ≡ placed (joins (2 * n) (added_by (code_of s.now) lost.now first)) out.old }
+fn put_all_blocks(plan: Plan, first: Next, out: &mut [u8])
+    requires fits { Fitting (map mask plan.arrays.now.lost) plan.sheet.count first }
+    requires low { LowNext first }
+    requires room { record_bytes * length (joins (2 * plan.sheet.count) (added_by (code_of plan.sheet.bytes.now) (map mask plan.arrays.now.lost) first)) ≤ length out.old }
+    ensures { out.new ≡ placed (joins (2 * plan.entry.sheet.count) (added_by (code_of plan.entry.sheet.bytes.now) (map mask plan.entry.arrays.now.lost) first)) out.old }
 {
     let mut next = first;
-    let mut e = 0;
-    while e < 2 * n {
+    for e in 0..2 * plan.sheet.count {
         let at = RECORD_BYTES * (next.attr - first.attr) as usize;
-        next = put_edge(s, lost, n, e, next, &mut out[at..]);
-        e += 1;
+        next = put_edge(plan, e, next, &mut out[at..]);
     }
 }
 
 // The new code, record behind record at the front of `out`: the kept instructions, then the blocks.
-pub fn transform_code(s: &[u8], fates: &[u8], lost: &[u64], n: usize, first: Next, out: &mut [u8])
-    requires { PlanTables s.now fates.now lost.now n × Fitting lost.now n first × LowNext first × (length (code_by (code_of s.now) fates.now lost.now n first) ≤ max_instructions) × (record_bytes * max_instructions ≤ length out.old) }
-    ensures { out.new ≡ placed (code_by (code_of s.now) fates.now lost.now n first) out.old }
+pub fn transform_code(plan: Plan, first: Next, out: &mut [u8])
+    requires fits { Fitting (map mask plan.arrays.now.lost) plan.sheet.count first }
+    requires low { LowNext first }
+    requires few { length (code_by (code_of plan.sheet.bytes.now) plan.arrays.now.fates (map mask plan.arrays.now.lost) plan.sheet.count first) ≤ max_instructions }
+    requires room { record_bytes * max_instructions ≤ length out.old }
+    ensures { out.new ≡ placed (code_by (code_of plan.entry.sheet.bytes.now) plan.entry.arrays.now.fates (map mask plan.entry.arrays.now.lost) plan.entry.sheet.count first) out.old }
 {
-    let m = put_all_kept(s, fates, lost, n, first, out);
+    let m = put_all_kept(plan, first, out);
     let at = RECORD_BYTES * m;
-    put_all_blocks(s, lost, n, first, &mut out[at..]);
+    put_all_blocks(plan, first, &mut out[at..]);
 }

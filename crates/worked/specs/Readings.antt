@@ -1,10 +1,11 @@
 -- Readings that the worked sheets do not pin down, by computation: each refusal, keys, double edges, exits with a flag, merging, graphs. Assumes nothing.
-use Rattle.std.specs.Prelude.{◌≡◌, refl, false, List, [], ◌∷◌, ◌++◌, map, ℕ, zero, suc, ◌+◌, ◌*◌, ◌^◌, ◌-◌, ◌<◌, set, replicate}
+use Rattle.base.specs.declared.Refusal.TheVariants.{AskedNode, Block, CodeTooLong, FallsThrough, FlaggedStop, Heading, LabelRepeated, LabelUndefined, Length, Local, LocalHidden, Nodes, NumberTooHigh, OutputShort, Record, Triples}
+use Rattle.std.specs.Prelude.{◌≡◌, refl, false, List, [], ◌∷◌, ◌++◌, map, ℕ, zero, suc, ◌+◌, ◌*◌, ◌^◌, ◌-◌, ◌<◌, set, replicate, Err}
 use Rattle.std.proofs.Common.{arith}
 use Rattle.base.specs.Sizes.{set_bytes, block_bytes, max_bytes}
 use Rattle.base.specs.Lists.{tab, gather}
 use Rattle.base.specs.Bytes.{bytes_of}
-use Rattle.base.specs.Refusals.{Refused, No, Done}
+use Rattle.base.specs.Refusals.{Done}
 use Rattle.stackless_bytecode.specs.declared.Bytecode.{Bytecode}
 use Rattle.stackless_bytecode.specs.Kinds.{at, Stop, Destroy, IsParent, WriteBack}
 use Rattle.stackless_bytecode.specs.declared.Lookup.TheVariants.{Named, Unnamed, Undefined}
@@ -46,58 +47,58 @@ changed s at x c = set (set s at x) 2 c
 -- ---- refusals
 
 pub record Refusals : Type 0 where
-  pub refused_1 : check_sheet [] ≡ Refused 1 0
-  pub refused_2_check : check_sheet (set m1 2 5) ≡ Refused 2 0
-  pub refused_2_later : check_sheet (set m1 600 1) ≡ Refused 2 1
+  pub refused_1 : check_sheet [] ≡ Err Length
+  pub refused_2_check : check_sheet (set m1 2 5) ≡ Err (Block 0)
+  pub refused_2_later : check_sheet (set m1 600 1) ≡ Err (Block 1)
   -- n 0, and block 1 broken: check 2 comes first
-  pub refused_2_first : check_sheet (set (changed m1 4 0 3) 600 1) ≡ Refused 2 1
-  pub refused_3_none : check_sheet (changed m1 4 0 3) ≡ Refused 3 0
+  pub refused_2_first : check_sheet (set (changed m1 4 0 3) 600 1) ≡ Err (Block 1)
+  pub refused_3_none : check_sheet (changed m1 4 0 3) ≡ Err Heading
   -- a spare whole block, and a missing one
-  pub refused_3_spare : check_sheet (m1 ++ block_of 2 (replicate (block_bytes - 4) 0)) ≡ Refused 3 0
-  pub refused_3_missing : check_sheet (changed m1 4 16 19) ≡ Refused 3 0
-  pub refused_3_locals : check_sheet (sheet_with 65 (ret 0 [] ∷ [])) ≡ Refused 3 0
-  pub refused_3_mask : check_sheet (sheet_of (heading_of 1 0 2) (ret 0 [] ∷ [])) ≡ Refused 3 0
-  pub refused_4_kind : check_sheet (sheet_with 1 (ret 0 [] ∷ plain 12 0 0 0 0 [] [] ∷ [])) ≡ Refused 4 1
-  pub refused_4_sub : check_sheet (sheet_with 1 (plain 0 3 0 0 0 (0 ∷ []) (0 ∷ []) ∷ ret 0 [] ∷ [])) ≡ Refused 4 0
+  pub refused_3_spare : check_sheet (m1 ++ block_of 2 (replicate (block_bytes - 4) 0)) ≡ Err Heading
+  pub refused_3_missing : check_sheet (changed m1 4 16 19) ≡ Err Heading
+  pub refused_3_locals : check_sheet (sheet_with 65 (ret 0 [] ∷ [])) ≡ Err Heading
+  pub refused_3_mask : check_sheet (sheet_of (heading_of 1 0 2) (ret 0 [] ∷ [])) ≡ Err Heading
+  pub refused_4_kind : check_sheet (sheet_with 1 (ret 0 [] ∷ plain 12 0 0 0 0 [] [] ∷ [])) ≡ Err (Record 1)
+  pub refused_4_sub : check_sheet (sheet_with 1 (plain 0 3 0 0 0 (0 ∷ []) (0 ∷ []) ∷ ret 0 [] ∷ [])) ≡ Err (Record 0)
   -- a record past n, at its own place
-  pub refused_4_past : check_sheet (changed (sheet_with 1 (ret 0 [] ∷ ret 0 [] ∷ [])) 4 1 3) ≡ Refused 4 1
+  pub refused_4_past : check_sheet (changed (sheet_with 1 (ret 0 [] ∷ ret 0 [] ∷ [])) 4 1 3) ≡ Err (Record 1)
   -- each check runs over the whole sheet before the next, 18 behind 4 and before 5
-  pub refused_4_first : check_sheet (sheet_with 1 (ret 0 (1 ∷ []) ∷ plain 0 3 0 0 0 (0 ∷ []) (0 ∷ []) ∷ ret 0 [] ∷ [])) ≡ Refused 4 1
-  pub refused_18 : check_sheet (sheet_with 1 (call 0 Stop [] [] ∷ flagged (call 0 Not [] []) 1 0 ∷ flagged (call 0 Stop [] []) 1 0 ∷ flagged (call 0 Stop [] []) 1 0 ∷ label 0 1 ∷ [])) ≡ Refused 18 2
-  pub refused_4_not_18 : check_sheet (sheet_with 1 (flagged (call 0 Stop [] []) 1 0 ∷ plain 12 0 0 0 0 [] [] ∷ [])) ≡ Refused 4 1
-  pub refused_18_not_5 : check_sheet (sheet_with 1 (ret 0 (1 ∷ []) ∷ flagged (call 0 Stop [] []) 1 1 ∷ [])) ≡ Refused 18 1
-  pub refused_5 : check_sheet (sheet_with 1 (ret 0 (1 ∷ []) ∷ [])) ≡ Refused 5 0
-  pub refused_5_abort : check_sheet (sheet_with 1 (flagged (call 0 Not [] []) 1 1 ∷ label 0 1 ∷ ret 0 [] ∷ [])) ≡ Refused 5 0
-  pub refused_6 : check_sheet (sheet_with 1 (label 0 1 ∷ label 0 1 ∷ ret 0 [] ∷ [])) ≡ Refused 6 1
-  pub refused_7 : check_sheet (sheet_with 1 (label 0 1 ∷ jump 0 9 ∷ [])) ≡ Refused 7 1
-  pub refused_8 : check_sheet (sheet_with 1 (load 0 0 ∷ [])) ≡ Refused 8 0
+  pub refused_4_first : check_sheet (sheet_with 1 (ret 0 (1 ∷ []) ∷ plain 0 3 0 0 0 (0 ∷ []) (0 ∷ []) ∷ ret 0 [] ∷ [])) ≡ Err (Record 1)
+  pub refused_18 : check_sheet (sheet_with 1 (call 0 Stop [] [] ∷ flagged (call 0 Not [] []) 1 0 ∷ flagged (call 0 Stop [] []) 1 0 ∷ flagged (call 0 Stop [] []) 1 0 ∷ label 0 1 ∷ [])) ≡ Err (FlaggedStop 2)
+  pub refused_4_not_18 : check_sheet (sheet_with 1 (flagged (call 0 Stop [] []) 1 0 ∷ plain 12 0 0 0 0 [] [] ∷ [])) ≡ Err (Record 1)
+  pub refused_18_not_5 : check_sheet (sheet_with 1 (ret 0 (1 ∷ []) ∷ flagged (call 0 Stop [] []) 1 1 ∷ [])) ≡ Err (FlaggedStop 1)
+  pub refused_5 : check_sheet (sheet_with 1 (ret 0 (1 ∷ []) ∷ [])) ≡ Err (Local 0)
+  pub refused_5_abort : check_sheet (sheet_with 1 (flagged (call 0 Not [] []) 1 1 ∷ label 0 1 ∷ ret 0 [] ∷ [])) ≡ Err (Local 0)
+  pub refused_6 : check_sheet (sheet_with 1 (label 0 1 ∷ label 0 1 ∷ ret 0 [] ∷ [])) ≡ Err (LabelRepeated 1)
+  pub refused_7 : check_sheet (sheet_with 1 (label 0 1 ∷ jump 0 9 ∷ [])) ≡ Err (LabelUndefined 1)
+  pub refused_8 : check_sheet (sheet_with 1 (load 0 0 ∷ [])) ≡ Err (FallsThrough 0)
   -- whether or not a path reaches the end
-  pub refused_8_unreached : check_sheet (sheet_with 1 (ret 0 [] ∷ load 0 0 ∷ [])) ≡ Refused 8 1
-  pub refused_9_flow : flow_reply m1 5 ≡ No 9 0
-  pub refused_9_live : live_reply m1 15 ≡ No 9 0
-  pub refused_9_rewrite : rewrite_reply m1 (max_bytes - 1) ≡ No 9 0
-  pub refused_9_dying : dying_reply (record { count = 2; live = 1; numbers = [] }) (record { count = 0; live = 0; numbers = [] }) 1 ≡ No 9 0
-  pub refused_10 : rewrite_reply (sheet_of (heading_of 3 0 2) (branch 0 65535 2 0 ∷ label 1 65535 ∷ call 2 ReadRef (2 ∷ []) (1 ∷ []) ∷ ret 3 (2 ∷ []) ∷ label 4 2 ∷ ret 5 [] ∷ [])) max_bytes ≡ No 10 0
+  pub refused_8_unreached : check_sheet (sheet_with 1 (ret 0 [] ∷ load 0 0 ∷ [])) ≡ Err (FallsThrough 1)
+  pub refused_9_flow : flow_reply m1 5 ≡ Err OutputShort
+  pub refused_9_live : live_reply m1 15 ≡ Err OutputShort
+  pub refused_9_rewrite : rewrite_reply m1 (max_bytes - 1) ≡ Err OutputShort
+  pub refused_9_dying : dying_reply (record { count = 2; live = 1; numbers = [] }) (record { count = 0; live = 0; numbers = [] }) 1 ≡ Err OutputShort
+  pub refused_10 : rewrite_reply (sheet_of (heading_of 3 0 2) (branch 0 65535 2 0 ∷ label 1 65535 ∷ call 2 ReadRef (2 ∷ []) (1 ∷ []) ∷ ret 3 (2 ∷ []) ∷ label 4 2 ∷ ret 5 [] ∷ [])) max_bytes ≡ Err NumberTooHigh
   -- the highest attribute id of M6 that leaves room for three more, and the next
   pub accepted_10 : rewrite_reply (sheet_of (heading_of 3 0 2) (branch 0 1 2 0 ∷ label 1 1 ∷ call 2 ReadRef (2 ∷ []) (1 ∷ []) ∷ ret 3 (2 ∷ []) ∷ label 4 2 ∷ ret 65532 [] ∷ [])) max_bytes
       ≡ Done 1024 (sheet_of (heading_of 3 0 2) (branch 0 1 3 0 ∷ label 1 1 ∷ call 2 ReadRef (2 ∷ []) (1 ∷ []) ∷ ret 3 (2 ∷ []) ∷ label 4 2 ∷ ret 65532 [] ∷ label 65533 3 ∷ call 65534 Destroy [] (1 ∷ []) ∷ jump 65535 2 ∷ []))
-  pub refused_10_attr : rewrite_reply (sheet_of (heading_of 3 0 2) (branch 0 1 2 0 ∷ label 1 1 ∷ call 2 ReadRef (2 ∷ []) (1 ∷ []) ∷ ret 3 (2 ∷ []) ∷ label 4 2 ∷ ret 65533 [] ∷ [])) max_bytes ≡ No 10 0
+  pub refused_10_attr : rewrite_reply (sheet_of (heading_of 3 0 2) (branch 0 1 2 0 ∷ label 1 1 ∷ call 2 ReadRef (2 ∷ []) (1 ∷ []) ∷ ret 3 (2 ∷ []) ∷ label 4 2 ∷ ret 65533 [] ∷ [])) max_bytes ≡ Err NumberTooHigh
   -- 10 is asked only where a block is needed
   pub unasked_10 : rewrite_reply (sheet_with 1 (label 65535 65535 ∷ ret 0 [] ∷ [])) max_bytes ≡ Done 1024 (sheet_with 1 (label 65535 65535 ∷ ret 0 [] ∷ []))
-  pub refused_11 : rewrite_reply (losing 99) max_bytes ≡ No 11 0
+  pub refused_11 : rewrite_reply (losing 99) max_bytes ≡ Err CodeTooLong
   -- both at once is 10
-  pub refused_10_first : rewrite_reply (losing 65535) max_bytes ≡ No 10 0
-  pub refused_12 : in_use_reply (record { count = 3; live = 8; numbers = [] }) 0 ≡ No 12 0
-  pub refused_12_second : dying_reply (record { count = 3; live = 4; numbers = 0 ∷ 3 ∷ 0 ∷ [] }) (record { count = 3; live = 8; numbers = [] }) 3 ≡ No 12 1
-  pub refused_13_length : in_use_reply (record { count = 3; live = 0; numbers = 0 ∷ 1 ∷ [] }) 0 ≡ No 13 300
-  pub refused_13_order : conditional_reply (record { count = 3; live = 0; numbers = 0 ∷ 2 ∷ 1 ∷ 0 ∷ 2 ∷ 1 ∷ [] }) 0 ≡ No 13 1
-  pub refused_13_second : dying_reply (record { count = 3; live = 4; numbers = [] }) (record { count = 3; live = 0; numbers = 0 ∷ 3 ∷ 0 ∷ [] }) 3 ≡ No 13 1000
-  pub refused_14 : in_use_reply (record { count = 3; live = 0; numbers = [] }) 3 ≡ No 14 0
+  pub refused_10_first : rewrite_reply (losing 65535) max_bytes ≡ Err NumberTooHigh
+  pub refused_12 : in_use_reply (record { count = 3; live = 8; numbers = [] }) 0 ≡ Err (Nodes 0)
+  pub refused_12_second : dying_reply (record { count = 3; live = 4; numbers = 0 ∷ 3 ∷ 0 ∷ [] }) (record { count = 3; live = 8; numbers = [] }) 3 ≡ Err (Nodes 1)
+  pub refused_13_length : in_use_reply (record { count = 3; live = 0; numbers = 0 ∷ 1 ∷ [] }) 0 ≡ Err (Triples 300)
+  pub refused_13_order : conditional_reply (record { count = 3; live = 0; numbers = 0 ∷ 2 ∷ 1 ∷ 0 ∷ 2 ∷ 1 ∷ [] }) 0 ≡ Err (Triples 1)
+  pub refused_13_second : dying_reply (record { count = 3; live = 4; numbers = [] }) (record { count = 3; live = 0; numbers = 0 ∷ 3 ∷ 0 ∷ [] }) 3 ≡ Err (Triples 1000)
+  pub refused_14 : in_use_reply (record { count = 3; live = 0; numbers = [] }) 3 ≡ Err AskedNode
   -- at the first of the two, and before 9
-  pub refused_15 : renumber_reply (sheet_with 1 (ret 0 [] ∷ call 0 WriteBack [] [] ∷ call 0 IsParent [] [] ∷ ret 0 [] ∷ [])) 0 ≡ No 15 1
-  pub refused_15_first : renumber_reply (sheet_with 1 (call 0 IsParent [] [] ∷ call 0 WriteBack [] [] ∷ ret 0 [] ∷ [])) max_bytes ≡ No 15 0
-  pub refused_8_first : renumber_reply (sheet_with 1 (call 0 IsParent [] [] ∷ [])) max_bytes ≡ No 8 0
-  pub refused_9_renumber : renumber_reply m1 1023 ≡ No 9 0
+  pub refused_15 : renumber_reply (sheet_with 1 (ret 0 [] ∷ call 0 WriteBack [] [] ∷ call 0 IsParent [] [] ∷ ret 0 [] ∷ [])) 0 ≡ Err (LocalHidden 1)
+  pub refused_15_first : renumber_reply (sheet_with 1 (call 0 IsParent [] [] ∷ call 0 WriteBack [] [] ∷ ret 0 [] ∷ [])) max_bytes ≡ Err (LocalHidden 0)
+  pub refused_8_first : renumber_reply (sheet_with 1 (call 0 IsParent [] [] ∷ [])) max_bytes ≡ Err (FallsThrough 0)
+  pub refused_9_renumber : renumber_reply m1 1023 ≡ Err OutputShort
   pub enough_9_renumber : renumber_reply m1 1024 ≡ Done 1024 m1
 
 pub refusals : Refusals
@@ -225,7 +226,7 @@ pub record LabelReadings : Type 0 where
   pub value_high : label_reply m2_unnamed 65537 ≡ Done (3 * 65536) []
   -- and Label 5 starts no block
   pub no_block : flow_reply m2_unnamed 12 ≡ Done 2 (0 ∷ 2 ∷ 2 ∷ 2 ∷ 3 ∷ 0 ∷ 3 ∷ 4 ∷ 3 ∷ 1 ∷ 0 ∷ 0 ∷ [])
-  pub label_refused_7 : label_reply (sheet_with 1 (label 0 1 ∷ jump 0 9 ∷ [])) 9 ≡ No 7 1
+  pub label_refused_7 : label_reply (sheet_with 1 (label 0 1 ∷ jump 0 9 ∷ [])) 9 ≡ Err (LabelUndefined 1)
 
 pub label_readings : LabelReadings
 unfolding sheet_with opened

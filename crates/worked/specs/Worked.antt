@@ -1,5 +1,6 @@
 -- The paper's worked sheets M1 to M8, proved together by one statement, `worked`, by computation. Assumes nothing.
 use Rattle.std.specs.Prelude.{◌≡◌, refl, ℕ, List, [], ◌∷◌}
+use Rattle.std.specs.Fmt.{digits}
 use Rattle.base.specs.Sizes.{max_bytes}
 use Rattle.base.specs.Bytes.{u16_at}
 use Rattle.base.specs.Refusals.{Accepted, Done}
@@ -45,7 +46,7 @@ pub record Worked : Type 0 where
   pub m8_dying : dying_reply (chain 7) (chain 5) 3 ≡ Done 0 []
 
 pub worked : Worked
-unfolding live opened
+unfolding live digits opened
 worked = record {
   m1_accepted = refl;
   m1_check_0 = refl;

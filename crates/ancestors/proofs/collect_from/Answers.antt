@@ -1,31 +1,28 @@
-use Rattle.std.proofs.Common.{eqb-true, arith, refl, sym, ◌∙◌, subst, ℕ, ◌<◌}
-use Rattle.dataflow_domains.specs.MemberLaws.{lowest_lt, walk_falls}
+use Rattle.std.proofs.Common.{refl, sym, subst, ℕ, ◌<◌}
+use Rattle.dataflow_domains.specs.MemberLaws.{walk_falls}
 use Rattle.dataflow_domains.specs.Sets.{mask}
-use Rattle.borrow_analysis.specs.AcceptedLaws.{inside_wider}
-use Rattle.borrow_analysis.specs.VisitLaws.{below_fits, starts_more, starts_all}
 use Rattle.ancestors.specs.ChainLaws.{firsts_none}
+use Rattle.ancestors.proofs.WalkingLaws.{walks_none, walks_more, walks_all, written_as}
 use Rattle.ancestors.proofs.collect_from.Goals as goal
 
 pub chain-requires : goal.chain-requires
-chain-requires c = let p = c.requires in (inside_wider _ p.1 p.0, p.2, firsts_none _ refl, p.2)
+chain-requires c = record { few = c.requires.short; behind = rw c.count.ensures (firsts_none _ refl); room = c.requires.short }
 
-pub collect_ancestors-seen-requires : goal.collect_ancestors-seen-requires
-collect_ancestors-seen-requires c =
-    let l = c.loop-used in
-    (c.chain.ensures.1, l.invariant.1, omega (arith, l.invariant.0.going.long, lowest_lt _ _ _ c.take_lowest-lowest.ensures.0 l.invariant.0.small))
+pub loop-node-init : goal.loop-node-init
+loop-node-init c = walks_none _ _ _ _ c.new.ensures c.new-2.ensures c.empty.ensures c.chain.ensures.firsts c.requires.small
 
-pub loop-used-smaller : goal.loop-used-smaller
-loop-used-smaller c =
-    let low = c.take_lowest-lowest.ensures in
-    subst (λ (x : ℕ). x < mask c.loop-used.left) (sym low.2) (walk_falls _ _ low.0.has)
+pub loop-node-smaller : goal.loop-node-smaller
+loop-node-smaller c = subst (λ (x : ℕ). x < mask c.loop-node.left) (sym c.in-Some.ensures.rest) (walk_falls _ _ c.in-Some.ensures.lowest.has)
 
-pub loop-used-preserved : goal.loop-used-preserved
-loop-used-preserved c =
-    let low = c.take_lowest-lowest.ensures in
-    let came = c.collect_ancestors-seen.ensures in
-    (starts_more _ _ _ _ c.requires.0 c.loop-used.invariant.0 low.0 low.2 came.1, came.0)
+pub loop-node-preserved : goal.loop-node-preserved
+loop-node-preserved c =
+    let came = c.collect_ancestors.ensures in
+    walks_more _ _ _ _ c.loop-node.invariant c.in-Some.ensures.lowest c.in-Some.ensures.rest (came.going, came.rests, came.listed)
+
+pub write-requires : goal.write-requires
+write-requires c = (walks_all _ _ _ _ c.requires.inside c.requires.few c.loop-node.invariant c.in_default.ensures.none).1
 
 pub returns : goal.returns
 returns c =
-    let inv = c.loop-used.invariant.0 in
-    (starts_all _ _ _ _ inv (eqb-true _ _ (sym c.is_empty.ensures ∙ c.loop-used-test.false)), below_fits inv.going.room)
+    let all = walks_all _ _ _ _ c.requires.inside c.requires.few c.loop-node.invariant c.in_default.ensures.none in
+    record { written = written_as all.0 c.write.ensures.written; fits = c.write.ensures.fits }

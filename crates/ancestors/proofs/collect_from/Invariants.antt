@@ -1,11 +1,10 @@
+use Rattle.std.proofs.Common.{length}
 use Rattle.dataflow_domains.specs.Sets.{mask}
-use Rattle.borrow_analysis.specs.Visiting.{StartVisits}
-use Rattle.ancestors.specs.Walking.{resting, Going}
+use Rattle.ancestors.specs.Walking.{WalksSoFar}
 use Rattle.ancestors.proofs.collect_from.Given as goal
 
-abbrev pub invariant-loop-used : goal.invariant-loop-used
-invariant-loop-used l =
-    StartVisits l.triples (mask l.used) (mask l.initial.left) l.initial.out (mask l.left) (mask l.seen.nodes) l.seen.count l.out × Going l.triples (mask l.used) (resting l.seen) l.list l.kept l.out
+abbrev pub invariant-loop-node : goal.invariant-loop-node
+invariant-loop-node l = WalksSoFar l.fn.triples.numbers.now (mask l.fn.used) (length l.out) (mask l.initial.left) (mask l.left) l.walk
 
-abbrev pub decreases-loop-used : goal.decreases-loop-used
-decreases-loop-used l = mask l.left
+abbrev pub decreases-loop-node : goal.decreases-loop-node
+decreases-loop-node l = mask l.left

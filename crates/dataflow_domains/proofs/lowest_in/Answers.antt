@@ -8,4 +8,4 @@ below n p h = lowest_lt n (count_trailing_zeros 64 n) 64 (trailing_lowest 64 n p
 
 pub returns : goal.returns
 returns c = let w = c.args.word in
-    (refl, trailing_lowest 64 w (omega arith) (omega arith), below w (omega arith) (omega arith))
+    record { place = refl; lowest = trailing_lowest 64 w (omega arith) (omega arith); below = below w (omega arith) (omega arith) }

@@ -1,6 +1,7 @@
--- An array is as long as its type says, by a law over every length.
-use Rattle.agreement.specs.AgreeLaws.{filled_long}
+-- By a law over every length, so that nothing counts the bytes.
+use Rattle.std.proofs.Common.{ℕ}
+use Rattle.std.proofs.lemmas.List.{length-replicate}
 use Rattle.replay.proofs.file_room.Goals as goal
 
 pub returns : goal.returns
-returns c = filled_long 2097152 0
+returns c = length-replicate {A = ℕ} 2097152 0

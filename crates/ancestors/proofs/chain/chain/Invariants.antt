@@ -1,9 +1,6 @@
-use Rattle.std.proofs.Common.{◌≡◌, ◌/◌, ◌≤◌, length}
+use Rattle.std.proofs.Common.{◌-◌}
 use Rattle.ancestors.specs.Chains.{Chained, Firsts}
 use Rattle.ancestors.proofs.chain.chain.Given as goal
 
-abbrev pub invariant-loop-left : goal.invariant-loop-left
-invariant-loop-left l = (l.left ≤ length l.triples / 3) × Firsts l.triples l.left l.first × Chained l.triples l.left l.next × (length l.next ≡ length l.initial.next)
-
-abbrev pub decreases-loop-left : goal.decreases-loop-left
-decreases-loop-left l = l.left
+abbrev pub invariant-loop-k : goal.invariant-loop-k
+invariant-loop-k l = Firsts l.triples.numbers.now (l.n - l.k) l.first × Chained l.triples.numbers.now (l.n - l.k) l.next

@@ -1,25 +1,28 @@
-use Rattle.std.proofs.Common.{refl, sym, ap, ◌∙◌, ℕ, ◌+◌, get_or, take_all, rules, arith}
+use Rattle.std.proofs.Common.{sym, ap, ◌∙◌, ◌≤◌, get_or, take_all, rules, arith}
+use Rattle.std.proofs.lemmas.List.Sums.{sum_by_more}
 use Rattle.dataflow_domains.specs.Sets.{mask}
 use Rattle.dataflow_domains.specs.SetLaws.{Array, array}
 use lib.Count.{ones, ones-le}
 use Rattle.dataflow_domains.specs.Words.{ones_of}
 use Rattle.dataflow_domains.specs.WordLaws.{mask_ones}
-use Rattle.dataflow_domains.specs.LoopLaws.{ones_more}
 use Rattle.dataflow_domains.proofs.LiveVarState.ones.Goals as goal
 
-pub loop-j-init : goal.loop-j-init
-unfolding ones_of
-loop-j-init c = (omega arith, refl, omega arith)
-
-pub loop-j-preserved : goal.loop-j-preserved
-loop-j-preserved c = let l = c.loop-j in
+pub overflow_add-n : goal.overflow_add-n
+overflow_add-n c =
+    let l = c.loop-word in
     let a = c.args.self.livevars in
     let known : Array a = array _ (search rules) (λ i. search rules) in
-    (omega arith, ap (λ (x : ℕ). x + ones (get_or a l.j 0)) l.invariant.1 ∙ sym (ones_more a l.j (omega (arith, known.long))), omega (arith, ones-le 64 (get_or a l.j 0) (known.words.each l.j)))
+    let few : ones (get_or a l.word-index 0) ≤ 64 = ones-le 64 (get_or a l.word-index 0) (known.words.each l.word-index) in search (rules, known.long)
+
+pub loop-word-preserved : goal.loop-word-preserved
+loop-word-preserved c = let l = c.loop-word in
+    let a = c.args.self.livevars in
+    let known : Array a = array _ (search rules) (λ i. search rules) in
+    (omega (arith, sum_by_more ones a l.word-index 0 (omega (arith, known.long))), omega (arith, ones-le 64 (get_or a l.word-index 0) (known.words.each l.word-index)))
 
 pub returns : goal.returns
 unfolding mask
-returns c = let l = c.loop-j in
+returns c = let l = c.loop-word in
     let a = c.args.self.livevars in
     let known : Array a = array _ (search rules) (λ i. search rules) in
-    l.invariant.1 ∙ ap ones_of (take_all l.j a (omega (arith, known.long))) ∙ sym (mask_ones 64 a known.words)
+    l.invariant.0 ∙ ap ones_of (take_all l.word-index a (omega (arith, known.long))) ∙ sym (mask_ones 64 a known.words)

@@ -1,20 +1,10 @@
-use Rattle.std.proofs.Common.{rules, arith}
+use Rattle.std.proofs.Common.{rules}
 use Rattle.dataflow_domains.specs.Mask.{minus}
 use Rattle.dataflow_domains.specs.Sets.{mask}
-use Rattle.dataflow_domains.specs.SetLaws.{Array, array}
-use Rattle.dataflow_domains.specs.LoopLaws.{each_more, minus_all}
+use Rattle.dataflow_domains.specs.SetLaws.{array, minus_words}
 use Rattle.dataflow_domains.proofs.LiveVarState.without.Goals as goal
 
-pub loop-j-preserved : goal.loop-j-preserved
-unfolding minus
-loop-j-preserved c = let l = c.loop-j in
-    let known : Array c.args.self.livevars = array _ (search rules) (λ i. search rules) in
-    (omega arith, each_more minus _ _ l.a l.j (omega (arith, known.long)) l.invariant.1)
-
 pub returns : goal.returns
-unfolding mask
-returns c = let l = c.loop-j in
-    let a = c.args in
-    let known : Array a.self.livevars = array _ (search rules) (λ i. search rules) in
-    let other : Array a.other.livevars = array _ (search rules) (λ i. search rules) in
-    minus_all 64 (omega arith) a.self.livevars a.other.livevars l.a l.j known.words other.words (omega (arith, known.long, other.long)) (omega (arith, known.long)) l.invariant.1
+unfolding mask minus
+returns c =
+    minus_words c.args.self.livevars c.args.other.livevars c.by_words.result.livevars (array _ (search rules) (λ i. search rules)) (array _ (search rules) (λ i. search rules)) (array _ (search rules) (λ i. search rules)) (λ j h. let word = c.by_words.ensures j h in search rules)

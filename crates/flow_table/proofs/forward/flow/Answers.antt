@@ -1,43 +1,29 @@
-use Rattle.base.specs.Refusals.{verdict_of}
-use Rattle.base.specs.RefusalLaws.{accepted_by}
-use Rattle.base.specs.ReplyLaws.{refuses, refused_number, done_result}
+use Rattle.std.proofs.Common.{ℕ, ◌*◌, ◌≤◌, ◌≡◌, Ok, length, arith}
+use Rattle.base.specs.Refusals.{answer_of}
 use Rattle.base.specs.Sizes.{row_numbers}
-use Rattle.sheet.specs.ValidLaws.{accepted_valid}
-use Rattle.stackless_control_flow_graph.specs.CallLaws.{flow_refused, flow_short, flow_done, into_checked}
+use Rattle.sheet.specs.Code.{code_in}
+use Rattle.sheet.specs.declared.accepted.AcceptedSheet.{AcceptedSheet}
+use Rattle.stackless_control_flow_graph.specs.Blocks.{blocks_of, flow_reply}
+use Rattle.base.specs.ReplyLaws.{refuses, done_result}
+use Rattle.stackless_control_flow_graph.specs.CallLaws.{flow_short, flow_done}
 use Rattle.stackless_control_flow_graph.specs.FlowMeaningLaws.{flow_means}
-use Rattle.std.proofs.Common.{ltb-false, ltb-true, length, ◌*◌, sym, ap, ◌∙◌, arith}
 use Rattle.flow_table.proofs.forward.flow.Goals as goal
 
-pub u16_at-n-requires : goal.u16_at-n-requires
-u16_at-n-requires c =
-    let v = accepted_valid c.args.sheet.now (sym c.check_into.ensures.0 ∙ ap verdict_of c.in-Accepted.is) in
-    omega (arith, v.size)
+pub returns-then-table-count-clause-result : goal.returns-then-table-count-clause-result
+returns-then-table-count-clause-result c =
+    let sheet = c.in_ok-sheet.sheet in
+    let t = c.table_of-count in
+    rw (← c.in_ok-sheet.ensures.accepted) (refuses c.args.table.now (flow_short sheet.bytes.now (length c.args.table.now) sheet.checked.accepted (omega (arith, t.ensures.result)))).result
 
-pub table_of-m-requires : goal.table_of-m-requires
-table_of-m-requires c =
-    let yes = ap verdict_of c.in-Accepted.is in
-    into_checked _ _ _ (sym c.check_into.ensures.0 ∙ yes) c.u16_at-n.ensures (c.check_into.ensures.1 yes) c.check_into.auto.targets
+-- there is room for all rows
+done : (sheet : AcceptedSheet) (lent m : ℕ) → m ≡ blocks_of (code_in sheet) → row_numbers * m ≤ lent → Ok m ≡ answer_of (flow_reply sheet.bytes.now lent)
+done sheet lent m is h = done_result is (flow_done sheet.bytes.now lent sheet.checked.accepted (omega (arith, is)))
 
-pub returns-then-lacks : goal.returns-then-lacks
-returns-then-lacks c =
-    let a = c.args in
-    let t = c.table_of-m in
-    let yes = accepted_by _ c.check_into.ensures.0 c.in-Accepted.is in
-    let h = ltb-true (length t.new.table) (row_numbers * t.result) (sym c.lacks.ensures ∙ c.if-lacks.true) in
-    let r = refuses a.table.now (flow_short a.sheet.now (length a.table.now) yes (omega (arith, h, t.ensures.result, t.auto.table))) in
-    record { result = r.result; written = t.ensures.written; meaning = λ z. absurd (omega arith) }
+pub returns-clause-result : goal.returns-clause-result
+returns-clause-result c = rw (← c.in_ok-sheet.ensures.accepted) (done c.in_ok-sheet.sheet _ _ c.table_of-count.ensures.result (omega arith))
 
-pub returns-in-Refused : goal.returns-in-Refused
-returns-in-Refused c =
-    let e = flow_refused c.args.sheet.now (length c.args.table.now) (sym c.check_into.ensures.0 ∙ ap verdict_of c.in-Refused.is) in
-    let r = refuses _ e in
-    record { result = r.result; written = r.same; meaning = λ z. absurd (refused_number c.in-Refused.f z) }
-
-pub returns-else-lacks : goal.returns-else-lacks
-returns-else-lacks c =
-    let a = c.args in
-    let t = c.table_of-m in
-    let yes = accepted_by _ c.check_into.ensures.0 c.in-Accepted.is in
-    let h = ltb-false (length t.new.table) (row_numbers * t.result) (sym c.lacks.ensures ∙ c.if-lacks.false) in
-    let q = done_result t.ensures.result (flow_done a.sheet.now (length a.table.now) yes (omega (arith, h, t.ensures.result, t.auto.table))) in
-    record { result = q; written = t.ensures.written; meaning = flow_means a.sheet.now a.table.now _ _ yes q t.ensures.written }
+pub returns-clause-meaning : goal.returns-clause-meaning
+returns-clause-meaning c =
+    let sheet = c.in_ok-sheet.sheet in
+    let t = c.table_of-count.ensures in
+    rw (← c.in_ok-sheet.ensures.accepted) (flow_means sheet.bytes.now c.args.table.now _ _ sheet.checked.accepted (done sheet (length c.args.table.now) _ t.result (omega arith)) t.written)

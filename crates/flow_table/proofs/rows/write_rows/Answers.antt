@@ -1,16 +1,21 @@
-use Rattle.std.proofs.Common.{◌+◌, ◌-◌, ◌*◌, ◌≡◌, refl, rules, arith}
-use Rattle.base.specs.Lists.{gather}
+use Rattle.std.proofs.Common.{ℕ, List, ◌+◌, ◌-◌, ◌*◌, ◌≡◌, ap, refl, arith, get_or, length}
 use Rattle.base.specs.Sizes.{row_numbers}
-use Rattle.stackless_control_flow_graph.specs.RowLaws.{rows_more}
+use Rattle.stackless_control_flow_graph.specs.FlowLaws.{lower_in}
+use Rattle.stackless_control_flow_graph.specs.RowLaws.{rows_more, rows_end}
 use Rattle.flow_table.proofs.rows.write_rows.Goals as goal
 
 pub loop-b-init : goal.loop-b-init
-unfolding gather
-loop-b-init c = (search rules, refl)
+loop-b-init c = refl
+
+pub write_row-requires-clause-start : goal.write_row-requires-clause-start
+write_row-requires-clause-start c = lower_in _ _ _ c.lowers-lower-items.ensures.lowers c.loop-b-test.true
 
 pub loop-b-preserved : goal.loop-b-preserved
 loop-b-preserved c =
-    let a = c.args in
     let b = c.loop-b.b in
+    let is = c.lowers-lower-items.ensures.lowers in
     let six : row_numbers * b + row_numbers - row_numbers * b ≡ row_numbers = omega arith in
-    (search rules, rw six (rows_more a.sheet.now a.goes.now a.uppers.now a.keys.now a.lowers.now a.table.now b _ _ c.loop-b.table c.write_row.new.out (omega (arith, c.requires.0.blocks)) c.block_at-k.ensures c.loop-b.invariant.1 c.write_row.ensures))
+    rw six (rows_more _ c.args.table.now b _ c.loop-b.table c.write_row.new.out (omega (arith, ap length is)) (ap (λ (l : List ℕ). get_or l b 0) is) c.loop-b.invariant c.write_row.ensures)
+
+pub returns : goal.returns
+returns c = rows_end _ c.args.table.now c.loop-b.b _ (omega (arith, ap length c.lowers-lower-items.ensures.lowers)) c.loop-b.invariant

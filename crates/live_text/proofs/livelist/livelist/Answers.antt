@@ -13,12 +13,12 @@ returns-then-out-lt-TEXT_BYTES c =
 pub overflow_cast-result : goal.overflow_cast-result
 overflow_cast-result c =
     let a = c.args in
-    let w = wrote_whole (omega (arith, livelist_short a.s.now)) c.put_livelist.ensures in
+    let w = wrote_whole (omega (arith, livelist_short a.s.now)) c.put_livelist.ensures.written in
     omega (arith, w.1, livelist_short a.s.now)
 
 pub returns : goal.returns
 returns c =
     let a = c.args in
-    let w = wrote_whole (omega (arith, livelist_short a.s.now)) c.put_livelist.ensures in
+    let w = wrote_whole (omega (arith, livelist_short a.s.now)) c.put_livelist.ensures.written in
     let e = livelist_done a.s.now (length a.out.now) (omega arith) in
     record { result = done_result w.1 e; written = done_output a.out.now (sym w.1) e w.0 }

@@ -1,14 +1,18 @@
 use Rattle.std.proofs.Common.{refl}
-use Rattle.livevar_analysis.specs.EngineLaws.{hand_none, hand_asks, hand_more}
+use Rattle.livevar_analysis.specs.EngineLaws.{hand_none, hand_inside, hand_room, hand_more, hand_all}
 use Rattle.livevar_engine.proofs.engine.hand_on.Goals as goal
 
-pub loop-i-init : goal.loop-i-init
-loop-i-init c = hand_none _ _ _ _ _ _ _ c.requires
+pub loop-p-init : goal.loop-p-init
+loop-p-init c = hand_none _ _ _ c.requires
 
-pub receive_at-c-requires : goal.receive_at-c-requires
-receive_at-c-requires c = hand_asks _ _ _ _ _ _ _ c.requires _ _ _ _ _ c.loop-i.invariant c.loop-i-test.true _ refl
+pub receive-requires-clause-inside : goal.receive-requires-clause-inside
+receive-requires-clause-inside c = hand_inside _ _ _ c.requires _ _ c.loop-p.invariant c.loop-p-test.true _ refl
 
-pub loop-i-preserved : goal.loop-i-preserved
-loop-i-preserved c =
-    let got = c.receive_at-c in
-    hand_more _ _ _ _ _ _ _ c.requires _ _ _ _ _ c.loop-i.invariant c.loop-i-test.true _ refl _ _ _ _ got.ensures got.auto.sets got.auto.met got.auto.q
+pub receive-requires-clause-room : goal.receive-requires-clause-room
+receive-requires-clause-room c = hand_room _ _ _ c.requires _ _ c.loop-p.invariant c.loop-p-test.true _ refl
+
+pub loop-p-preserved : goal.loop-p-preserved
+loop-p-preserved c = hand_more _ _ _ c.requires _ _ c.loop-p.invariant c.loop-p-test.true _ refl _ c.receive.ensures
+
+pub returns : goal.returns
+returns c = hand_all _ _ _ c.requires _ _ c.loop-p.invariant c.loop-p-test.false

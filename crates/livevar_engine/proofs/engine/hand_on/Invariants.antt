@@ -1,10 +1,6 @@
-use Rattle.std.proofs.Common.{◌-◌, length}
 use Rattle.dataflow_domains.specs.Sets.{mask}
 use Rattle.livevar_analysis.specs.EngineLaws.{Handing}
 use Rattle.livevar_engine.proofs.engine.hand_on.Given as goal
 
-abbrev pub invariant-loop-i : goal.invariant-loop-i
-invariant-loop-i l = Handing (length l.initial.met) l.initial.sets l.initial.met l.initial.q l.initial.c l.part (mask l.m) l.sets l.met l.q l.c l.i
-
-abbrev pub decreases-loop-i : goal.decreases-loop-i
-decreases-loop-i l = length l.part - l.i
+abbrev pub invariant-loop-p : goal.invariant-loop-p
+invariant-loop-p l = Handing l.initial.list l.part (mask l.m) l.list l.p-index

@@ -1,26 +1,29 @@
-use Rattle.std.proofs.Common.{sym, ◌∙◌}
-use Rattle.dataflow_analysis.specs.QueueLaws.{Took, took_key, took_none}
-use Rattle.livevar_analysis.specs.RunLaws.{held_begin, held_out, held_hands, held_more, held_done}
+use Rattle.std.proofs.Common.{rules, arith}
+use Rattle.dataflow_analysis.specs.Receipt.{Ended}
+use Rattle.dataflow_analysis.specs.ReceiptLaws.{same_then}
+use Rattle.livevar_analysis.specs.RunLaws.{held_begin, held_out, held_hands, held_head, held_more, held_done}
 use Rattle.livevar_engine.proofs.engine.run.Goals as goal
 
 pub loop-k-init : goal.loop-k-init
-loop-k-init c = held_begin _ _ _ _ _ _ _ _ _ c.requires
+loop-k-init c = held_begin _ _ c.requires
 
 pub out_of-m-requires : goal.out_of-m-requires
-out_of-m-requires c =
-    let took : Took c.loop-k.q c.loop-k.c c.in-Key.k c.in-Key.next = took_key _ _ _ _ c.loop-k.invariant.list_fits (sym c.in-Key.is ∙ c.take.ensures) in
-    held_out _ _ _ _ _ _ _ _ _ c.requires _ _ _ _ c.loop-k.invariant _ _ (took)
+out_of-m-requires c = held_out _ _ c.requires _ c.loop-k.invariant _ _ c.in-Some.ensures.some
 
-pub hand_key-c-requires : goal.hand_key-c-requires
-hand_key-c-requires c =
-    let took : Took c.loop-k.q c.loop-k.c c.in-Key.k c.in-Key.next = took_key _ _ _ _ c.loop-k.invariant.list_fits (sym c.in-Key.is ∙ c.take.ensures) in
-    held_hands _ _ _ _ _ _ _ _ _ c.requires _ _ _ _ c.loop-k.invariant _ _ (took) _ c.out_of-m.ensures
+pub hand_key-requires : goal.hand_key-requires
+hand_key-requires c = held_hands _ _ c.requires _ c.loop-k.invariant _ _ c.in-Some.ensures.some _ c.out_of-m.ensures
 
 pub loop-k-preserved : goal.loop-k-preserved
-loop-k-preserved c =
-    let took : Took c.loop-k.q c.loop-k.c c.in-Key.k c.in-Key.next = took_key _ _ _ _ c.loop-k.invariant.list_fits (sym c.in-Key.is ∙ c.take.ensures) in
-    let h = c.hand_key-c in
-    held_more _ _ _ _ _ _ _ _ _ c.requires _ _ _ _ c.loop-k.invariant _ _ (took) _ c.out_of-m.ensures _ _ _ _ h.ensures h.auto.sets h.auto.met h.auto.q
+loop-k-preserved c = held_more _ _ c.requires _ c.loop-k.invariant _ _ c.in-Some.ensures.some _ c.out_of-m.ensures _ c.hand_key.ensures
 
-pub returns-in-Empty : goal.returns-in-Empty
-returns-in-Empty c code locals begun = held_done _ _ _ _ _ _ _ _ _ c.requires _ _ _ _ c.loop-k.invariant (took_none _ _ (sym c.in-Empty.is ∙ c.take.ensures)) code locals begun
+pub loop-k-smaller : goal.loop-k-smaller
+loop-k-smaller c =
+    let w₁ = c.take.new.self in
+    let w₂ = c.hand_key.new.list in
+    let more = held_more _ _ c.requires _ c.loop-k.invariant _ w₁ c.in-Some.ensures.some _ c.out_of-m.ensures w₂ c.hand_key.ensures in
+    omega (arith, held_head _ _ c.requires _ c.loop-k.invariant _ w₁ c.in-Some.ensures.some _ c.out_of-m.ensures w₂ c.hand_key.ensures, more.same.queue_long, w₂.fits)
+
+pub returns : goal.returns
+returns c =
+    let ended : Ended c.loop-k.list c.take.new.self = search rules in
+    record { same = same_then c.loop-k.invariant.same ended.same; solved = λ code locals begun. held_done _ _ c.requires _ _ c.loop-k.invariant ended code locals begun }

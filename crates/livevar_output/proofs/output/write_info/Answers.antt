@@ -1,4 +1,4 @@
-use Rattle.std.proofs.Common.{refl, sym, ap, ◌∙◌, ◌++◌, ℕ, ◌*◌, drop, rules, arith}
+use Rattle.std.proofs.Common.{sym, ap, ◌∙◌, ◌++◌, ℕ, ◌*◌, drop, arith}
 use Rattle.base.specs.Sizes.{pair_bytes}
 use Rattle.dataflow_domains.specs.Sets.{mask}
 use Rattle.livevar_analysis.specs.Analysis.{live_bytes}
@@ -7,20 +7,16 @@ use Rattle.livevar_analysis.specs.OutputLaws.{written_none, written_step, writte
 use Rattle.livevar_output.proofs.output.write_info.Goals as goal
 
 pub loop-k-init : goal.loop-k-init
-loop-k-init c = let s = c.args in record { within = omega arith; long = refl; same = λ code ms e ruled known. written_none code ms s.out.now s.n _ e }
+loop-k-init c code ms e ruled known = written_none code ms c.args.out.now c.args.n _ e
 
 pub loop-k-preserved : goal.loop-k-preserved
-loop-k-preserved c =
+loop-k-preserved c code ms e ruled known =
     let l = c.loop-k in
     let s = c.args in
-    record {
-      within = omega arith;
-      long = search rules;
-      same = λ code ms e ruled known. written_step code ms s.out.now s.rules.now s.keys.now s.sets.now s.n (mask c.after_of-after.result) (mask c.apply-m.result) c.put_info.new.out e ruled known (omega arith) (omega arith) (omega arith) c.after_of-after.ensures c.apply-m.ensures c.put_info.ensures (l.invariant.same code ms e ruled known);
-    }
+    written_step code ms s.out.now s.rules.now s.keys.now s.sets.now s.n (mask c.after_of-after.result) (mask c.apply-m.result) c.put_info.new.out e ruled known (omega arith) (omega arith) (omega arith) c.after_of-after.ensures c.apply-m.ensures c.put_info.ensures (l.invariant code ms e ruled known)
 
 pub returns : goal.returns
 returns c code ms e ruled known =
     let l = c.loop-k in
     let s = c.args in
-    written_all code ms s.out.now (omega arith) (l.invariant.same code ms e ruled known) ∙ ap (λ (x : ℕ). live_bytes (infos_by code ms) ++ drop (pair_bytes * x) s.out.now) (sym e)
+    written_all code ms s.out.now (omega arith) (l.invariant code ms e ruled known) ∙ ap (λ (x : ℕ). live_bytes (infos_by code ms) ++ drop (pair_bytes * x) s.out.now) (sym e)

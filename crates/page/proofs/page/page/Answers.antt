@@ -14,12 +14,12 @@ returns-then-out-lt-PAGE_BYTES c =
 pub overflow_cast-result : goal.overflow_cast-result
 overflow_cast-result c =
     let short = page_short c.args.s.now (record { each = λ i. (c.type_inv.s i).fits }) in
-    let w = wrote_whole (omega (arith, short)) c.put_page.ensures in
+    let w = wrote_whole (omega (arith, short)) c.put_page.ensures.written in
     omega (arith, w.1, short)
 
 pub returns : goal.returns
 returns c =
     let a = c.args in
-    let w = wrote_whole (omega (arith, page_short a.s.now (record { each = λ i. (c.type_inv.s i).fits }))) c.put_page.ensures in
+    let w = wrote_whole (omega (arith, page_short a.s.now (record { each = λ i. (c.type_inv.s i).fits }))) c.put_page.ensures.written in
     let e = page_done a.s.now (length a.out.now) (omega arith) in
     record { result = done_result w.1 e; written = done_output a.out.now (sym w.1) e w.0 }

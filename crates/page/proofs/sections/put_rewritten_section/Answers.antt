@@ -1,27 +1,19 @@
-use Rattle.std.proofs.Common.{sym, ap₂, ◌∙◌, length-take-le}
-use Rattle.listing.specs.Lines.{refused_text}
-use Rattle.listing.specs.OutputLaws.{wrote_as, wrote_then}
+use Rattle.listing.specs.WriterLaws.{text_next, text_as}
 use Rattle.pages.specs.PageLaws.{rewrite_refused, rewrite_written}
 use Rattle.page.proofs.sections.put_rewritten_section.Goals as goal
 
-pub slice_bounds-new-end : goal.slice_bounds-new-end
-slice_bounds-new-end c =
-    (rewrite_written c.args.s.now _ _ _ c.requires.0 c.rewrite_sheet.ensures _ (record { each = λ i. (c.type_inv.s i).fits }) c.in-Value.is).room
-
-pub slice_bounds-put_code-end : goal.slice_bounds-put_code-end
-slice_bounds-put_code-end c =
-    sym (length-take-le _ _ (rewrite_written c.args.s.now _ _ _ c.requires.0 c.rewrite_sheet.ensures _ (record { each = λ i. (c.type_inv.s i).fits }) c.in-Value.is).room)
-
 pub put_code-requires : goal.put_code-requires
 put_code-requires c =
-    (rewrite_written c.args.s.now _ _ _ c.requires.0 c.rewrite_sheet.ensures _ (record { each = λ i. (c.type_inv.s i).fits }) c.in-Value.is).again
+    let sheet = c.args.live.sheet in
+    (rewrite_written sheet.bytes.now _ _ _ sheet.checked.accepted c.rewrite_sheet.ensures _ sheet.fits c.in-Ok.is).again
 
-pub returns-in-Refused : goal.returns-in-Refused
-returns-in-Refused c =
-    let text = rewrite_refused c.args.s.now _ _ _ c.requires.0 c.rewrite_sheet.ensures _ c.in-Refused.is in
-    wrote_then c.put_bytes-a.ensures (wrote_as (ap₂ refused_text c.number.ensures c.place.ensures ∙ text) c.put_refused.ensures)
+pub returns-in-Ok : goal.returns-in-Ok
+returns-in-Ok c =
+    let sheet = c.args.live.sheet in
+    let new = rewrite_written sheet.bytes.now _ _ _ sheet.checked.accepted c.rewrite_sheet.ensures _ sheet.fits c.in-Ok.is in
+    text_next _ _ _ c.put.ensures (text_as _ new.text c.put_code.ensures)
 
-pub returns-in-Value : goal.returns-in-Value
-returns-in-Value c =
-    let new = rewrite_written c.args.s.now _ _ _ c.requires.0 c.rewrite_sheet.ensures _ (record { each = λ i. (c.type_inv.s i).fits }) c.in-Value.is in
-    wrote_then c.put_bytes-a.ensures (wrote_as new.text c.put_code.ensures)
+pub returns-in-Err : goal.returns-in-Err
+returns-in-Err c =
+    let sheet = c.args.live.sheet in
+    text_next _ _ _ c.put.ensures (text_as _ (rewrite_refused sheet.bytes.now _ _ _ sheet.checked.accepted c.rewrite_sheet.ensures _ c.in-Err.is) c.put_refused.ensures)

@@ -1,20 +1,14 @@
 use Rattle.std.proofs.Common.{arith}
-use Rattle.sheet.specs.Shaped.{record_inside}
-use Rattle.listing.specs.OutputLaws.{wrote_as, wrote_none, wrote_then}
-use Rattle.pages.specs.UnnamedLaws.{unnamed_none, unnamed_more, unnamed_all}
+use Rattle.std.proofs.lemmas.Grind.{common_steps}
+use Rattle.listing.specs.WriterLaws.{texts, text_next, text_as}
+use Rattle.pages.specs.UnnamedLaws.{label_put, label_skip, unnamed_all}
 use Rattle.page_tables.proofs.labels.put_labels.Goals as goal
-
-pub loop-k-init : goal.loop-k-init
-loop-k-init c = (omega arith, wrote_as (unnamed_none _) (wrote_none _ _))
-
-pub instruction_at-r-requires : goal.instruction_at-r-requires
-instruction_at-r-requires c = let shaped = c.requires.0 in (record_inside shaped _ (omega arith), omega (arith, shaped.few))
 
 pub loop-k-preserved : goal.loop-k-preserved
 loop-k-preserved c =
-    let p = c.requires in
-    let l = c.loop-k in
-    (omega arith, wrote_as (unnamed_more p.0 p.1 l.k (omega arith) c.instruction_at-r.ensures) (wrote_then l.invariant.1 c.put_label-e.ensures))
+    let put = label_put _ _ c.requires.0 c.loop-k.k (omega (arith, c.args.sheet.size)) _ c.instruction-r.ensures in
+    let skip = label_skip _ _ c.requires.0 c.loop-k.k (omega (arith, c.args.sheet.size)) _ c.instruction-r.ensures in
+    grind (arith, common_steps, texts)
 
 pub returns : goal.returns
-returns c = let p = c.requires in let l = c.loop-k in wrote_as (unnamed_all p.0 l.k (omega arith)) l.invariant.1
+returns c = text_next _ _ _ (text_next _ _ _ c.put.ensures (text_as _ (unnamed_all _ c.loop-k.k (omega (arith, c.args.sheet.size))) c.loop-k.invariant)) c.put-2.ensures

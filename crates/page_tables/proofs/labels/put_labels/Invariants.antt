@@ -1,11 +1,8 @@
-use Rattle.std.proofs.Common.{◌-◌, ◌≤◌}
-use Rattle.sheet.specs.Layout.{code_of}
-use Rattle.listing.specs.Output.{Wrote}
+use Rattle.std.proofs.Common.{◌≡◌}
+use Rattle.sheet.specs.Code.{code_in}
+use Rattle.listing.specs.Writer.{◌with_text◌}
 use Rattle.pages.specs.Marks.{unnamed_to}
 use Rattle.page_tables.proofs.labels.put_labels.Given as goal
 
 abbrev pub invariant-loop-k : goal.invariant-loop-k
-invariant-loop-k l = (l.k ≤ l.n) × Wrote l.initial.out l.at (unnamed_to (code_of l.s) l.k) l.out l.e
-
-abbrev pub decreases-loop-k : goal.decreases-loop-k
-decreases-loop-k l = l.n - l.k
+invariant-loop-k l = l.out ≡ l.initial.out with_text unnamed_to (code_in l.sheet) l.k

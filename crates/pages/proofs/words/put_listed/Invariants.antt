@@ -1,10 +1,7 @@
-use Rattle.std.proofs.Common.{◌-◌, ◌≤◌, length, take}
-use Rattle.listing.specs.Output.{Wrote}
+use Rattle.std.proofs.Common.{◌≡◌, take}
+use Rattle.listing.specs.Writer.{◌with_text◌}
 use Rattle.pages.specs.Words.{listed}
 use Rattle.pages.proofs.words.put_listed.Given as goal
 
-abbrev pub invariant-loop-i : goal.invariant-loop-i
-invariant-loop-i l = (l.i ≤ length l.xs) × (l.i ≤ l.n) × Wrote l.initial.out l.at (listed l.before l.behind (take l.i l.xs)) l.out l.e
-
-abbrev pub decreases-loop-i : goal.decreases-loop-i
-decreases-loop-i l = length l.xs - l.i
+abbrev pub invariant-loop-x : goal.invariant-loop-x
+invariant-loop-x l = l.out ≡ l.initial.out with_text listed l.before l.behind (take l.x-index l.xs)

@@ -1,11 +1,18 @@
+use Rattle.std.proofs.Common.{refl, ℕ, ◌*◌, ◌-◌, arith}
+use Rattle.std.proofs.lemmas.List.{length-replicate}
+use Rattle.base.specs.Sizes.{max_blocks}
+use Rattle.sheet_writer.specs.Written.{body_bytes}
 use Rattle.sheet.specs.ValidLaws.{accepted_valid}
-use Rattle.sheet_writer.specs.SheetLaws.{few_blocks, blank_long, blank_holds}
-use Rattle.std.proofs.Common.{arith}
+use Rattle.sheet_writer.specs.SheetLaws.{few_blocks, blank_holds}
 use Rattle.rewrite.proofs.rewrite.write_new.Goals as goal
 
 pub write_sheet-requires : goal.write_sheet-requires
 write_sheet-requires c =
-    let p = c.requires in (omega (arith, (accepted_valid _ p.0.edge.accepted).size), p.4, omega (arith, blank_long p.5, few_blocks c.args.m p.4), omega (arith, p.6, few_blocks c.args.m p.4))
+    let p = c.requires in
+    let blocks = few_blocks c.args.m p.few in
+    (omega (arith, (accepted_valid _ c.args.plan.sheet.checked.accepted).size), p.few, omega (arith, blocks, c.transform_code.auto.out, length-replicate {A = ℕ} (body_bytes * (max_blocks - 1)) 0), omega (arith, p.room, blocks))
 
 pub returns : goal.returns
-returns c = let p = c.requires in c.write_sheet.ensures _ p.3 (blank_holds _ _ _ p.5 (omega (arith, p.3, p.4)) c.transform_code.ensures)
+returns c =
+    let p = c.requires in
+    c.write_sheet.ensures _ p.long (blank_holds _ _ _ (record { size = body_bytes * (max_blocks - 1); is = refl; room = omega arith }) (omega (arith, p.long, p.few)) c.transform_code.ensures)

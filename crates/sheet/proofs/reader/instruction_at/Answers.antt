@@ -11,4 +11,4 @@ part_is s k a r start e =
     e ∙ ap₂ (λ (n x : ℕ). decode (take n (drop x s))) size start
 
 pub returns : goal.returns
-returns c = part_is _ _ _ _ c.record_start-a.ensures c.decode.ensures
+returns c = part_is _ _ _ _ c.record_start-at.ensures c.decode.ensures

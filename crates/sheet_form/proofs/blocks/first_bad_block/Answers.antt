@@ -1,26 +1,14 @@
-use Rattle.std.proofs.Common.{sym, ap, ◌∙◌}
+use Rattle.std.proofs.Common.{sym, ◌∙◌, arith}
 use Rattle.std.proofs.Math.Nat.{add-sub_cancel_left}
-use Rattle.base.specs.SearchLaws.{bad_more, bad_stop, bad_end}
-use Rattle.base.specs.Refusals.{found_of}
+use Rattle.base.specs.SearchLaws.{first_is, holds_next}
 use Rattle.sheet.specs.Layout.{block_at}
 use Rattle.sheet_form.proofs.blocks.first_bad_block.Goals as goal
-use Rattle.sheet_form.proofs.blocks.first_bad_block.Invariants.{ok_at}
 
-pub returns-then-not-block_ok : goal.returns-then-not-block_ok
+pub returns-then-not-block_ok-clause-first : goal.returns-then-not-block_ok-clause-first
 unfolding block_at
-returns-then-not-block_ok c =
-    let s = c.args.s.now in
-    let at = c.loop-b in
-    sym (ap found_of (at.invariant.1 ∙ bad_stop _ at.b (ok_at s) c.loop-b-test.true (rw add-sub_cancel_left at (sym c.block_ok.ensures ∙ c.if-not-block_ok.true))))
+returns-then-not-block_ok-clause-first c =
+    sym (first_is _ 0 c.loop-b.b _ (omega arith) (omega (arith, c.loop-b-test.true)) (λ j _ h. c.loop-b.invariant j h) (rw add-sub_cancel_left at (sym c.block_ok.ensures ∙ c.if-not-block_ok.true)))
 
 pub loop-b-preserved : goal.loop-b-preserved
 unfolding block_at
-loop-b-preserved c =
-    let s = c.args.s.now in
-    let at = c.loop-b in
-    (at.invariant.0, at.invariant.1 ∙ bad_more _ at.b (ok_at s) c.loop-b-test.true (rw add-sub_cancel_left at (sym c.block_ok.ensures ∙ c.if-not-block_ok.false)))
-
-pub returns : goal.returns
-returns c =
-    let s = c.args.s.now in
-    sym (ap found_of (c.loop-b.invariant.1 ∙ bad_end _ c.loop-b.b (ok_at s) c.loop-b-test.false))
+loop-b-preserved c = λ j h. holds_next 0 c.loop-b.b _ (λ i _ l. c.loop-b.invariant i l) (rw add-sub_cancel_left at (sym c.block_ok.ensures ∙ c.if-not-block_ok.false)) j (omega arith) h

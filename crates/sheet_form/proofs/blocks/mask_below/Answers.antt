@@ -6,15 +6,15 @@ use Rattle.sheet_form.proofs.blocks.mask_below.Goals as goal
 pub returns-then-not-byte_below : goal.returns-then-not-byte_below
 returns-then-not-byte_below c =
     let p = c.args.p.now in
-    let i = c.loop-i.i in
-    sym (c.loop-i.invariant ∙ below_stop p i c.loop-i.rest (search rules) (omega (arith, c.type_inv.p i)) (sym c.byte_below.ensures ∙ c.if-not-byte_below.true))
+    let i = c.loop-x.x-index in
+    sym (c.loop-x.invariant ∙ below_stop p i c.loop-x.rest (search rules) (omega (arith, c.type_inv.p i)) (sym c.byte_below.ensures ∙ c.if-not-byte_below.true))
 
-pub loop-i-preserved : goal.loop-i-preserved
-loop-i-preserved c =
+pub loop-x-preserved : goal.loop-x-preserved
+loop-x-preserved c =
     let p = c.args.p.now in
-    let i = c.loop-i.i in
-    let more = below_more p i c.loop-i.rest (search rules) (omega (arith, c.type_inv.p i)) (sym c.byte_below.ensures ∙ c.if-not-byte_below.false) in
-    c.loop-i.invariant ∙ more ∙ ap (λ (r : ℕ). ltb (number (drop (i + 1) p)) (2 ^ r)) (sym c.behind-rest.ensures)
+    let i = c.loop-x.x-index in
+    let more = below_more p i c.loop-x.rest (search rules) (omega (arith, c.type_inv.p i)) (sym c.byte_below.ensures ∙ c.if-not-byte_below.false) in
+    c.loop-x.invariant ∙ more ∙ ap (λ (r : ℕ). ltb (number (drop (i + 1) p)) (2 ^ r)) (sym c.saturating_sub-rest.ensures)
 
 pub returns : goal.returns
-returns c = sym (c.loop-i.invariant ∙ below_end c.args.p.now c.loop-i.i c.loop-i.rest c.loop-i-test.false)
+returns c = sym (c.loop-x.invariant ∙ below_end c.args.p.now c.loop-x.x-index c.loop-x.rest (omega arith))

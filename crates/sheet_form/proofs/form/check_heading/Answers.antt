@@ -1,9 +1,9 @@
 use Rattle.std.proofs.Common.{sym, ◌∙◌}
-use Rattle.base.specs.RefusalLaws.{refused_whole, accepted_whole}
+use Rattle.sheet.specs.AcceptLaws.{is_heading}
 use Rattle.sheet_form.proofs.form.check_heading.Goals as goal
 
-pub returns-then-heading_ok : goal.returns-then-heading_ok
-returns-then-heading_ok c = accepted_whole 3 (sym c.heading_ok.ensures ∙ c.if-heading_ok.true)
+pub returns-then-heading_ok-clause-few : goal.returns-then-heading_ok-clause-few
+returns-then-heading_ok-clause-few c = (is_heading _ (sym c.heading_ok.ensures ∙ c.if-heading_ok.true)).few
 
-pub returns : goal.returns
-returns c = refused_whole 3 (sym c.heading_ok.ensures ∙ c.if-heading_ok.false)
+pub returns-then-heading_ok-clause-size : goal.returns-then-heading_ok-clause-size
+returns-then-heading_ok-clause-size c = (is_heading _ (sym c.heading_ok.ensures ∙ c.if-heading_ok.true)).size

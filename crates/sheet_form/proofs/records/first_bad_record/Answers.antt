@@ -1,36 +1,22 @@
-use Rattle.std.proofs.Common.{◌≡◌, sym, ap, ◌∙◌, ℕ, ◌-◌, ◌*◌, arith, rules}
-use Rattle.base.specs.Lists.{first_bad}
-use Rattle.base.specs.Sizes.{block_records}
+use Rattle.std.proofs.Common.{sym, ◌+◌, ◌*◌, ◌≤◌, arith, rules, length, None}
+use Rattle.base.specs.Sizes.{block_bytes, block_records}
 use Rattle.sheet.specs.Layout.{record_blocks}
 use Rattle.sheet.specs.Checks.{place_ok}
-use Rattle.base.specs.Refusals.{found_of}
-use Rattle.sheet_form.specs.BlockSearch.{pass_block, stop_block}
+use Rattle.sheet.specs.ByBlocks.{found_on, none_on, finds_first}
+use Rattle.sheet_form.specs.BlockSearch.{place_handed}
 use Rattle.sheet_form.proofs.records.first_bad_record.Goals as goal
 
-pub first_bad_in-found-requires : goal.first_bad_in-found-requires
+pub first_bad_in-requires : goal.first_bad_in-requires
 unfolding record_blocks
-first_bad_in-found-requires c = search rules
+first_bad_in-requires c = search rules
 
-pub returns-in_default : goal.returns-in_default
-returns-in_default c =
-    let a = c.args in
-    let at = c.loop-b in
-    stop_block a.s.now a.n _ at.b _ _ c.requires.0 c.loop-b-test.true c.first_bad_in-found.ensures c.in_default.is
-    ∙ sym (ap found_of at.invariant.2)
+pub returns-in-Some-clause-first : goal.returns-in-Some-clause-first
+returns-in-Some-clause-first c =
+    found_on _ _ (place_ok c.args.s.now) _ (λ k l h. sym (place_handed c.args.s.now c.args.n c.loop-b.b k c.requires.0 l h)) c.loop-b.invariant _ c.in-Some.k (omega (arith, c.loop-b-test.true)) c.in-Some.ensures
 
 pub loop-b-preserved : goal.loop-b-preserved
 loop-b-preserved c =
-    let a = c.args in
-    let at = c.loop-b in (
-      at.invariant.0,
-      omega arith,
-      at.invariant.2 ∙ pass_block a.s.now a.n _ at.b _ c.requires.0 c.loop-b-test.true c.first_bad_in-found.ensures c.in-Nothing.is,
-    )
+    λ j h. none_on _ _ (place_ok c.args.s.now) _ (λ k l h. sym (place_handed c.args.s.now c.args.n c.loop-b.b k c.requires.0 l h)) c.loop-b.invariant c.in_default.ensures j (omega arith)
 
-pub returns : goal.returns
-unfolding first_bad
-returns c =
-    let a = c.args in
-    let at = c.loop-b in
-    let none : block_records * (c.record_blocks-blocks.result - at.b) ≡ 0 = omega arith in
-    sym (ap found_of (at.invariant.2 ∙ ap (λ (m : ℕ). first_bad m (block_records * at.b) (place_ok a.s.now)) none))
+pub returns-clause-first : goal.returns-clause-first
+returns-clause-first c = finds_first _ _ None (λ j _ h. c.loop-b.invariant j (omega arith))

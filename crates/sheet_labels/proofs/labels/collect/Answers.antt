@@ -16,9 +16,9 @@ pub returns-then-has_bit : goal.returns-then-has_bit
 returns-then-has_bit c =
     let l = c.loop-k in
     let is = code_at c.requires.0 l.k (search rules) ∙ sym c.instruction_at-r.ensures in
-    let wide = c.u16_to_usize-l in
+    let wide = c.from-l in
     labels_repeated (code_size c.requires.0)
-    (pass_stop l.invariant (code_size c.requires.0) (search rules) (ap (λ (r : Bytecode). eqb r.kind Label) is ∙ sym c.is_label.ensures ∙ c.if-is_label.true) wide.result (wide.ensures.0 ∙ ap (λ (r : Bytecode). r.one) (sym is)) (omega (arith, wide.ensures.1)) (sym c.has_bit.ensures ∙ c.if-has_bit.true))
+    (pass_stop l.invariant (code_size c.requires.0) (search rules) (ap (λ (r : Bytecode). eqb r.kind Label) is ∙ sym c.is_label.ensures ∙ c.if-is_label.true) wide.result (wide.ensures ∙ ap (λ (r : Bytecode). r.one) (sym is)) (search rules) (sym c.has_bit.ensures ∙ c.if-has_bit.true))
 
 pub loop-k-preserved : goal.loop-k-preserved
 loop-k-preserved c =
@@ -28,8 +28,8 @@ loop-k-preserved c =
     let is = code_at c.requires.0 l.k (search rules) ∙ sym here.ensures in
     let label = ap (λ (r : Bytecode). eqb r.kind Label) is ∙ sym c.is_label.ensures in
     elim c.if-is_label.branch [
-      | then-is_label+else-has_bit w ↦ pass_more l.invariant (code_size c.requires.0) (search rules) (label ∙ w.if-is_label.true) w.u16_to_usize-l.result (w.u16_to_usize-l.ensures.0 ∙ ap (λ (r : Bytecode). r.one) (sym is)) (omega (arith, w.u16_to_usize-l.ensures.1))
-          (sym w.has_bit.ensures ∙ w.if-has_bit.false) (search rules) (search rules) (rw w.seen-is w.put_bit.ensures) (w.labels-is ∙ ap (set l.labels l.m) (sym w.u16_to_usize-l.ensures.0)) w.places-is w.m-is
+      | then-is_label+else-has_bit w ↦ pass_more l.invariant (code_size c.requires.0) (search rules) (label ∙ w.if-is_label.true) w.from-l.result (w.from-l.ensures ∙ ap (λ (r : Bytecode). r.one) (sym is)) (search rules)
+          (sym w.has_bit.ensures ∙ w.if-has_bit.false) (search rules) (search rules) (rw w.seen-is w.put_bit.ensures) (w.labels-is ∙ ap (set l.labels l.m) (sym w.from-l.ensures)) w.places-is w.m-is
       | else-is_label w ↦ pass_skip l.invariant (code_size c.requires.0) (search rules) (label ∙ w.if-is_label.false) w.seen-is w.labels-is w.places-is w.m-is
     ]
 

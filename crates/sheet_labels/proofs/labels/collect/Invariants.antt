@@ -1,10 +1,6 @@
-use Rattle.std.proofs.Common.{◌-◌}
 use Rattle.sheet.specs.Layout.{code_of}
 use Rattle.sheet_labels.specs.LabelLaws.{Pass}
 use Rattle.sheet_labels.proofs.labels.collect.Given as goal
 
 abbrev pub invariant-loop-k : goal.invariant-loop-k
 invariant-loop-k l = Pass (code_of l.s) l.n l.initial.seen l.initial.labels l.initial.places l.k l.m l.seen l.labels l.places
-
-abbrev pub decreases-loop-k : goal.decreases-loop-k
-decreases-loop-k l = l.n - l.k

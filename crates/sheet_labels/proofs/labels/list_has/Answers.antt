@@ -2,14 +2,8 @@ use Rattle.std.proofs.Common.{arith}
 use Rattle.sheet_labels.specs.NameLaws.{list_more, list_end}
 use Rattle.sheet_labels.proofs.labels.list_has.Goals as goal
 
-pub loop-i-preserved : goal.loop-i-preserved
-loop-i-preserved c =
-    let a = c.args in
-    let l = c.loop-i in
-    (omega arith, list_more a.l a.p.now l.i l.found c.loop-i-test.true l.invariant.1)
+pub loop-x-preserved : goal.loop-x-preserved
+loop-x-preserved c = list_more c.args.l c.args.p.now c.loop-x.x-index c.loop-x.found c.loop-x-test.true c.loop-x.invariant
 
 pub returns : goal.returns
-returns c =
-    let a = c.args in
-    let l = c.loop-i in
-    list_end a.l a.p.now l.i l.found c.loop-i-test.false l.invariant.1
+returns c = list_end c.args.l c.args.p.now c.loop-x.x-index c.loop-x.found (omega arith) c.loop-x.invariant

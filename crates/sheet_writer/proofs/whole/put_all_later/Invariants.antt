@@ -3,7 +3,4 @@ use Rattle.sheet_writer.specs.Written.{Blocks}
 use Rattle.sheet_writer.proofs.whole.put_all_later.Given as goal
 
 abbrev pub invariant-loop-b : goal.invariant-loop-b
-invariant-loop-b l = (l.b ≤ l.m) × (length l.out ≡ length l.initial.out) × Blocks l.flat l.initial.out l.b l.out
-
-abbrev pub decreases-loop-b : goal.decreases-loop-b
-decreases-loop-b l = l.m - l.b
+invariant-loop-b l = (length l.out ≡ length l.initial.out) × Blocks l.flat l.initial.out l.b l.out

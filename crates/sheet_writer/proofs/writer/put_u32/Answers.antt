@@ -1,7 +1,6 @@
-use Rattle.base.specs.Bytes.{bytes_of}
-use Rattle.base.specs.WriteLaws.{fill}
+use Rattle.std.proofs.Common.{◌∙◌}
+use Rattle.base.specs.ByteLaws.{le_bytes_4}
 use Rattle.sheet_writer.proofs.writer.put_u32.Goals as goal
 
 pub returns : goal.returns
-unfolding bytes_of
-returns c = fill c.args.out.now (bytes_of 4 c.args.x) c.requires
+returns c = c.copy_from_slice.ensures.after ∙ c.to_le_bytes.ensures ∙ le_bytes_4 c.args.x

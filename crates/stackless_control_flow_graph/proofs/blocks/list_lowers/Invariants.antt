@@ -1,9 +1,6 @@
+use Rattle.std.proofs.Common.{◌≡◌, ◌≤◌, take}
 use Rattle.stackless_control_flow_graph.specs.Arrays.{marked_in}
-use Rattle.std.proofs.Common.{length, take, ◌≤◌, ◌-◌, ◌≡◌}
 use Rattle.stackless_control_flow_graph.proofs.blocks.list_lowers.Given as goal
 
 abbrev pub invariant-loop-k : goal.invariant-loop-k
-invariant-loop-k l = (l.k ≤ l.n) × (length l.lowers ≡ length l.initial.lowers) × (l.c ≤ l.k) × (take l.c l.lowers ≡ marked_in l.marks l.k)
-
-abbrev pub decreases-loop-k : goal.decreases-loop-k
-decreases-loop-k l = l.n - l.k
+invariant-loop-k l = (l.c ≤ l.k) × (take l.c l.lowers ≡ marked_in l.marks l.k)

@@ -1,9 +1,6 @@
--- What was read lies in the packed bytes, and what was written in the array.
-use Rattle.std.proofs.Common.{length, ◌-◌, ◌≤◌}
+-- What was written lies in the array.
+use Rattle.std.proofs.Common.{length, ◌≤◌}
 use Rattle.stored_cases.proofs.packed.unpack.Given as goal
 
-abbrev pub invariant-loop-i : goal.invariant-loop-i
-invariant-loop-i l = (l.at ≤ length l.out) × (l.i ≤ length l.p)
-
-abbrev pub decreases-loop-i : goal.decreases-loop-i
-decreases-loop-i l = length l.p - l.i
+abbrev pub invariant-loop-byte : goal.invariant-loop-byte
+invariant-loop-byte l = (l.at ≤ length l.out) × (goal.iterator-loop-byte).can_next l.bytes × (goal.iterator-loop-byte).is_finite l.bytes

@@ -6,14 +6,27 @@ use Rattle.livevar_transform.specs.NewCodeLaws.{joins_none, pieces_none, kept_pi
 use Rattle.transform_code.proofs.write.put_all_kept.Goals as goal
 
 pub loop-k-init : goal.loop-k-init
-loop-k-init c = (omega arith, omega arith, refl, joins_none _, pieces_none _ _, numbers_first _ _)
+loop-k-init c = (omega arith, refl, joins_none _, pieces_none _ _, numbers_first _ _)
 
-pub put_kept-m-requires : goal.put_kept-m-requires
-put_kept-m-requires c = let p = c.requires in let l = c.loop-k in (p.0, omega arith, numbers_small _ _ _ _ p.2 (omega (arith, p.0.edge.few)) l.invariant.5, labels_fit _ _ _ _ _ p.1 (omega arith) l.invariant.5, rw (tail_is) (omega (arith, p.0.edge.few, length-drop (record_bytes * l.m) l.out)))
+pub put_kept-m-requires-clause-below : goal.put_kept-m-requires-clause-below
+put_kept-m-requires-clause-below c = numbers_small _ _ _ _ c.requires.low (omega (arith, c.args.plan.sheet.few)) c.loop-k.invariant.4
 
-pub past_both-next-requires : goal.past_both-next-requires
-past_both-next-requires c =
-    (numbers_small _ _ _ _ c.requires.2 (omega (arith, c.requires.0.edge.few)) c.loop-k.invariant.5, omega (arith, c.requires.0.edge.edges))
+pub put_kept-m-requires-clause-labels : goal.put_kept-m-requires-clause-labels
+put_kept-m-requires-clause-labels c = labels_fit _ _ _ _ _ c.requires.fits (omega arith) c.loop-k.invariant.4
+
+pub put_kept-m-requires-clause-room : goal.put_kept-m-requires-clause-room
+put_kept-m-requires-clause-room c = rw (tail_is) (omega (arith, c.args.plan.sheet.few, length-drop (record_bytes * c.loop-k.m) c.loop-k.out))
+
+pub past_both-next-requires-clause-below : goal.past_both-next-requires-clause-below
+past_both-next-requires-clause-below c = numbers_small _ _ _ _ c.requires.low (omega (arith, c.args.plan.sheet.few)) c.loop-k.invariant.4
 
 pub loop-k-preserved : goal.loop-k-preserved
-loop-k-preserved c = let l = c.loop-k in let k = c.put_kept-m in (omega arith, omega (arith, k.ensures.1), search rules, kept_long _ _ _ _ _ _ _ _ l.invariant.5 l.invariant.3 k.ensures.0, kept_pieces _ _ _ _ _ _ _ _ _ _ l.invariant.5 l.invariant.4 (ap (λ (x : ℕ). record_bytes * x) l.invariant.3) k.ensures.2, numbers_both _ _ _ _ _ l.invariant.5 c.past_both-next.ensures)
+loop-k-preserved c =
+    let l = c.loop-k in
+    let k = c.put_kept-m in (
+      omega (arith, k.ensures.low),
+      search rules,
+      kept_long _ _ _ _ _ _ _ _ l.invariant.4 l.invariant.2 k.ensures.long,
+      kept_pieces _ _ _ _ _ _ _ _ _ _ l.invariant.4 l.invariant.3 (ap (λ (x : ℕ). record_bytes * x) l.invariant.2) k.ensures.written,
+      numbers_both _ _ _ _ _ l.invariant.4 c.past_both-next.ensures,
+    )

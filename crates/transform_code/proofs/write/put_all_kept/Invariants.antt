@@ -1,12 +1,13 @@
-use Rattle.std.proofs.Common.{◌≡◌, ◌*◌, ◌-◌, ◌≤◌, length}
+use Rattle.std.proofs.Common.{◌≡◌, ◌*◌, ◌≤◌, length, map}
 use Rattle.base.specs.Lists.{joins}
+use Rattle.dataflow_domains.specs.Sets.{mask}
 use Rattle.sheet.specs.Layout.{code_of}
 use Rattle.sheet_writer.specs.Written.{placed}
 use Rattle.livevar_transform.specs.Plan.{numbers_at, kept_by}
 use Rattle.transform_code.proofs.write.put_all_kept.Given as goal
 
 abbrev pub invariant-loop-k : goal.invariant-loop-k
-invariant-loop-k l = (l.k ≤ l.n) × (l.m ≤ l.k) × (length l.out ≡ length l.initial.out) × (l.m ≡ length (joins l.k (kept_by (code_of l.s) l.fates l.lost l.initial.next))) × (l.out ≡ placed (joins l.k (kept_by (code_of l.s) l.fates l.lost l.initial.next)) l.initial.out) × (l.next ≡ numbers_at l.initial.next l.lost (2 * l.k))
-
-abbrev pub decreases-loop-k : goal.decreases-loop-k
-decreases-loop-k l = l.n - l.k
+invariant-loop-k l =
+    let p = l.plan in
+    let kept = kept_by (code_of p.sheet.bytes.now) p.arrays.now.fates (map mask p.arrays.now.lost) l.initial.next in
+    (l.m ≤ l.k) × (length l.out ≡ length l.initial.out) × (l.m ≡ length (joins l.k kept)) × (l.out ≡ placed (joins l.k kept) l.initial.out) × (l.next ≡ numbers_at l.initial.next (map mask p.arrays.now.lost) (2 * l.k))

@@ -5,4 +5,4 @@ use Rattle.transform_code.proofs.write.transform_code.Goals as goal
 
 pub returns : goal.returns
 returns c =
-    all_written _ _ _ _ _ _ _ _ _ c.put_all_kept-m.ensures.1 (ap (λ (x : ℕ). record_bytes * x) c.put_all_kept-m.ensures.0) c.put_all_blocks.ensures
+    all_written _ _ _ _ _ _ _ _ _ c.put_all_kept-m.ensures.written (ap (λ (x : ℕ). record_bytes * x) c.put_all_kept-m.ensures.long) c.put_all_blocks.ensures

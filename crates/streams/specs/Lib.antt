@@ -1,2 +1,0 @@
--- What the public contracts and theorems say.
-pub mod Input
