@@ -2,17 +2,11 @@
 use Rattle.std.specs.Prelude.{ℕ, ◌%◌, ◌/◌, ◌≡◌, List, [], ◌∷◌, ◌++◌, length, take, drop}
 use Rattle.base.specs.Refusals.{Reply, answer_of, output_after}
 use Rattle.class_set.specs.ClassSet.{sets_reply, answers_reply}
-use Rattle.borrow_analysis.specs.Graph.{GraphInput, graph_input}
 use Rattle.c_api.specs.Packed.{packed}
-use Rattle.agreement.specs.declared.Graph.{Graph}
 
 -- the first `lent` elements of `out` are lent to a call: what `out` holds once it has replied, the rest as it was
 abbrev pub after : Reply → ℕ → List ℕ → List ℕ
 after r lent out = output_after r (take lent out) ++ drop lent out
-
--- a graph, as the definitions have it
-abbrev pub input_of : Graph → GraphInput
-input_of g = graph_input g.nodes g.live g.triples.now
 
 -- the reply in one number is the stored result
 abbrev pub SameResult : Reply → ℕ → Type 0

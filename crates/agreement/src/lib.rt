@@ -4,14 +4,16 @@
 ghost use Rattle.std.specs.Prelude.{◌*◌, ◌≤◌, ◌≡◌, ◌↔◌, ℕ, length, IsTrue};
 ghost use Rattle.base.specs.Refusals.{Reply, answer_of, output_after};
 ghost use Rattle.c_api.specs.Packed.{packed, check_reply};
+ghost use Rattle.borrow_analysis.specs.Graph.{input_of};
 ghost use Rattle.borrow_analysis.specs.Borrows.{in_use_reply, conditional_reply, dying_reply};
 ghost use Rattle.stackless_control_flow_graph.specs.Blocks.{flow_reply};
 ghost use Rattle.label.specs.LabelCall.{label_reply};
 ghost use Rattle.livevar_analysis.specs.Analysis.{live_reply};
 ghost use Rattle.livevar_transform.specs.Rewrite.{rewrite_reply};
 ghost use Rattle.eliminate_unused_vars.specs.Renumber.{renumber_reply};
-ghost use Rattle.agreement.specs.Agree.{SameResult, Agrees, AgreesPairs, AgreesClass, at_front, pairs, input_of};
+ghost use Rattle.agreement.specs.Agree.{SameResult, Agrees, AgreesPairs, AgreesClass, at_front, pairs};
 
+pub use borrow_analysis::graph::InputGraph;
 use c_api::{
     sorzibelu_check, sorzibelu_conditional, sorzibelu_dying, sorzibelu_flow, sorzibelu_in_use,
     sorzibelu_label, sorzibelu_live, sorzibelu_live_class, sorzibelu_renumber, sorzibelu_rewrite,
@@ -23,14 +25,6 @@ pub struct StoredCase<'a> {
     pub lent: usize,
     pub result: u64,
     pub want: &'a [u8],
-}
-
-// A graph, as it is given to a call.
-#[derive(Clone, Copy)]
-pub struct Graph<'a> {
-    pub nodes: u32,
-    pub live: u64,
-    pub triples: &'a [u32],
 }
 
 // A call that is lent bytes: its reply, where so many are.
@@ -83,8 +77,8 @@ impl<'a> LentCall for Renumber<'a> {
 
 #[derive(Clone, Copy)]
 pub struct Dying<'a> {
-    pub graph: Graph<'a>,
-    pub next: Graph<'a>,
+    pub graph: InputGraph<'a>,
+    pub next: InputGraph<'a>,
 }
 
 impl<'a> LentCall for Dying<'a> {
@@ -134,7 +128,8 @@ fn bytes_of(table: &[u16], out: &mut [u8])
 
 // Of flow, whose table is lent in 16-bit numbers and compared in bytes.
 pub fn flow_agrees(sheet: &[u8], stored: StoredCase<'_>, table: &mut [u16], out: &mut [u8]) -> bool
-    requires { (stored.lent ≤ length table.old) × (2 * length table.old ≤ length out.old) }
+    requires table { stored.lent ≤ length table.old }
+    requires out { 2 * length table.old ≤ length out.old }
     ensures { IsTrue result ↔ AgreesPairs (flow_reply sheet.now stored.entry.lent) stored.entry.lent stored.entry.result table.old out.old stored.entry.want.now }
 {
     let got = sorzibelu_flow(sheet, &mut table[..stored.lent]);
@@ -151,7 +146,8 @@ pub fn live_class_agrees(
     sets: &mut [u8],
     answers: &mut [u32],
 ) -> bool
-    requires { (stored.lent ≤ length sets.old) × (numbers ≤ length answers.old) }
+    requires sets { stored.lent ≤ length sets.old }
+    requires answers { numbers ≤ length answers.old }
     ensures { IsTrue result ↔ AgreesClass sheets.now stored.entry.lent numbers stored.entry.result sets.old answers.old stored.entry.want.now numbered.now }
 {
     let got = sorzibelu_live_class(sheets, &mut sets[..stored.lent], &mut answers[..numbers]);
@@ -171,13 +167,13 @@ pub fn label_agrees(sheet: &[u8], label: u32, res: u64) -> bool
     sorzibelu_label(sheet, label) == res
 }
 
-pub fn in_use_agrees(graph: Graph<'_>, node: u32, res: u64) -> bool
+pub fn in_use_agrees(graph: InputGraph<'_>, node: u32, res: u64) -> bool
     ensures { IsTrue result ↔ SameResult (in_use_reply (input_of graph.entry) node) res }
 {
     sorzibelu_in_use(graph.nodes, graph.live, graph.triples, node) == res
 }
 
-pub fn conditional_agrees(graph: Graph<'_>, node: u32, res: u64) -> bool
+pub fn conditional_agrees(graph: InputGraph<'_>, node: u32, res: u64) -> bool
     ensures { IsTrue result ↔ SameResult (conditional_reply (input_of graph.entry) node) res }
 {
     sorzibelu_conditional(graph.nodes, graph.live, graph.triples, node) == res

@@ -45,11 +45,11 @@ module _ (xs : List ℕ) where
 
   -- one turn, from l to z
   pub chain_on : {i l z x v : ℕ} {first next : List ℕ} → suc i ≡ l → z ≡ i → Firsts xs l first → Chained xs l next → i < length xs / 3 → x < max_locals → x ≡ child_at xs i → v ≡ get_or first x 0
-      → Firsts xs z (set first x i) × Chained xs z (set next i v)
+      → Firsts xs z (set first x i) × Chained xs z (set next i v) × (length (set next i v) ≡ length next)
   chain_on {i} {l} {z} {x} {v} {first} {next} before is firsts chained low small child after =
       let f = subst (λ (k : ℕ). Firsts xs k first) (sym before) firsts in
       let w = subst (λ (k : ℕ). Chained xs k next) (sym before) chained in
-      (subst (λ (k : ℕ). Firsts xs k (set first x i)) (sym is) (firsts_more f low small child after), subst (λ (k : ℕ). Chained xs k (set next i v)) (sym is) (chain_more f low small child after w))
+      (subst (λ (k : ℕ). Firsts xs k (set first x i)) (sym is) (firsts_more f low small child after), subst (λ (k : ℕ). Chained xs k (set next i v)) (sym is) (chain_more f low small child after w), length-set next i v)
 
   -- the first triple is reached
   pub chain_all : {l : ℕ} {first next : List ℕ} → l ≡ 0 → Firsts xs l first → Chained xs l next → Firsts xs 0 first × Chained xs 0 next

@@ -15,7 +15,7 @@ pub struct Ways<'a> {
     pub triples: Triples<'a>,
     pub next: &'a [u16],
     pub used: LiveVarState,
-    ghost chained: { Chained triples.numbers.now 0 next.now },
+    pub ghost chained: { Chained triples.numbers.now 0 next.now },
 }
 
 // For each node the first triple that leads to it, and for each triple the next that leads to the same node; the number of triples where there is none: arrays
@@ -28,8 +28,7 @@ pub fn chain(triples: Triples, first: &mut [u16], next: &mut [u16])
     ensures chained { Chained triples.entry.numbers.now 0 next.new }
 {
     let n = triples.count();
-    for k in 0..n {
-        let i = n - 1 - k;
+    for i in (0..n).rev() {
         let child = usize::from(triples.child_at(i));
         next[i] = first[child];
         first[child] = i as u16;
@@ -54,6 +53,7 @@ impl<'a> Ways<'a> {
     {
         let n = self.triples.count();
         let mut i = from;
+        // No range: the chain says which place is the next.
         while i < n {
             if !self.passes_over(nodes, self.triples.parent_at(i)) {
                 return Some(i);

@@ -82,6 +82,7 @@ impl Walk {
             return;
         }
         self.put(node);
+        // No range: the walk ends when the path is empty, and counts no index.
         while let Some(&end) = self.path.as_slice().last() {
             self.step(ways, end);
         }
@@ -131,6 +132,7 @@ pub fn collect_from(
         used,
     };
     let mut left = from;
+    // By place, as document 01 wants sets: the least element, then those left.
     while let Some((node, rest)) = left.split_lowest() {
         walk.collect_ancestors(ways, node);
         left = rest;

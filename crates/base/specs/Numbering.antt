@@ -1,23 +1,23 @@
 -- Numbers in the order of first mention: what the arrays hold in which they are given. Assumes nothing.
-use Rattle.std.specs.Prelude.{◌≡◌, cond, ℕ, suc, ◌≤◌, ◌<◌, get_or, length, take, List, Option, Some, None}
+use Rattle.std.specs.Prelude.{◌≡◌, cond, ℕ, suc, ◌+◌, ◌≤◌, ◌<◌, get_or, length, take, List, Option, Some, None}
 use mathlib.Core.List.{Memᴰ}
 use Rattle.base.specs.Sizes.{max_number}
 use Rattle.base.specs.Lists.{has, place, Distinct}
 
--- the number of x, from 0 on, where those of xs have numbers
-unfoldable pub number_of : List ℕ → ℕ → Option ℕ
-number_of xs x = cond (has x xs) (Some (place x xs)) None
+-- the number of x, where those of xs have the numbers from `first` on
+unfoldable pub number_of : ℕ → List ℕ → ℕ → Option ℕ
+number_of first xs x = cond (has x xs) (Some (first + place x xs)) None
 
 -- what is kept for x: one more than its number, and 0 where it has none
-unfoldable pub kept_of : List ℕ → ℕ → ℕ
-kept_of xs x = cond (has x xs) (suc (place x xs)) 0
+unfoldable pub kept_of : ℕ → List ℕ → ℕ → ℕ
+kept_of first xs x = cond (has x xs) (suc (first + place x xs)) 0
 
--- what a `Numbering` of numbers below n holds: what is kept for each, and the c that have numbers, in the order of these
-pub record Numbered (n : ℕ) (numbers order : List ℕ) (c : ℕ) : Type 0 where
-  pub each : (x : ℕ) → x < n → get_or numbers x 0 ≡ kept_of (take c order) x
+-- what a `Numbering` from `first` on, of numbers below n, holds: what is kept for each, and the c that have numbers, in the order of these
+pub record Numbered (first n : ℕ) (numbers order : List ℕ) (c : ℕ) : Type 0 where
+  pub each : (x : ℕ) → x < n → get_or numbers x 0 ≡ kept_of first (take c order) x
   pub once : Distinct (take c order)
   pub within : (x : ℕ) → Memᴰ x (take c order) → x < n
   pub inside : c ≤ n
   pub room : length numbers ≡ n
   pub places : length order ≡ n
-  pub few : n ≤ max_number
+  pub few : first + n ≤ max_number

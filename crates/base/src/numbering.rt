@@ -7,27 +7,27 @@ ghost use Rattle.base.specs.Numbering.{Numbered, number_of};
 
 use std::marker::Model;
 
-// The numbers from 0 on that numbers below N have been given, in the order of first mention: seen as the list of those that have one.
+// The numbers from FIRST on that numbers below N have been given, in the order of first mention: seen as the list of those that have one.
 #[derive(Drop)]
-pub struct Numbering<const N: usize> {
-    // One more than the number of each, and 0 where it has none: two bytes a place, where an Option has four.
+pub struct Numbering<const FIRST: usize, const N: usize> {
+    // One more than the number of each, and 0 where it has none: an Option would take four bytes a place for two. (The chains of ancestors were tried with it, and took twice the instructions.)
     numbers: [u16; N],
-    // Those that have numbers, in the order of these.
+    // Those that have numbers, in the order of these. The count is the next number too, so that an ArrayVec would be no plainer.
     order: [u16; N],
     count: usize,
 }
 
-impl<const N: usize> Model for Numbering<N> {
+impl<const FIRST: usize, const N: usize> Model for Numbering<FIRST, N> {
     ghost Value = { List ℕ };
 
     ghost view = { λ a. take a.count a.order };
 
-    ghost invariant = { λ a. Numbered N a.numbers a.order a.count };
+    ghost invariant = { λ a. Numbered FIRST N a.numbers a.order a.count };
 }
 
-impl<const N: usize> Numbering<N> {
+impl<const FIRST: usize, const N: usize> Numbering<FIRST, N> {
     pub fn new() -> Self
-        requires { N ≤ max_number }
+        requires { FIRST + N ≤ max_number }
         ensures { result ≡ [] }
     {
         Numbering {
@@ -38,31 +38,30 @@ impl<const N: usize> Numbering<N> {
     }
 
     // The next number to x, where it has none yet.
-    pub fn give(&mut self, x: u16)
+    pub fn give(&mut self, x: usize)
         requires { x < N }
         ensures { self.new ≡ firsts self.old (x ∷ []) }
     {
-        let at = usize::from(x);
-        if self.numbers[at] == 0 {
-            self.order[self.count] = x;
+        if self.numbers[x] == 0 {
+            self.order[self.count] = x as u16;
             self.count += 1;
-            self.numbers[at] = self.count as u16;
+            self.numbers[x] = (FIRST + self.count) as u16;
         }
     }
 
     // The number of x.
-    pub fn number(&self, x: u16) -> Option<u16>
+    pub fn number(&self, x: usize) -> Option<u16>
         requires { x < N }
-        ensures { result ≡ number_of self.now x }
+        ensures { result ≡ number_of FIRST self.now x }
     {
-        self.numbers[usize::from(x)].checked_sub(1)
+        self.numbers[x].checked_sub(1)
     }
 
     // The number of x, which has one.
     pub fn number_of(&self, x: u16) -> u16
         requires { Memᴰ x self.now }
-        ensures number { result ≡ place x self.now }
-        ensures below { result < N }
+        ensures number { result ≡ FIRST + place x self.now }
+        ensures below { result < FIRST + N }
     {
         self.numbers[usize::from(x)] - 1
     }

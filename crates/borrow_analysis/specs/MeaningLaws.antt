@@ -62,6 +62,11 @@ answers b {P} {yes} ok e w =
     let same : yes ≡ cond b 1 0 = cc in
     record { result = e; means = subst (λ (n : ℕ). Decides (eqb n 1) P) (sym same) (yes_decides b w) }
 
+-- the result of an accepted call: a value, which is 1 exactly where P holds
+answer_decides : {v : Verdict} (b : Bool) {P : Type 0} {r : Result ℕ Refusal} → v ≡ Accepted → Decides b P → r ≡ answer_of (reply v (Done (cond b 1 0) []))
+    → (yes : ℕ) × (r ≡ Ok yes) × Decides (eqb yes 1) P
+answer_decides b ok w e = (cond b 1 0, e ∙ ap answer_of (reply_done (Done (cond b 1 0) []) ok), yes_decides b w)
+
 -- ---- in use
 
 in_use_decides : (g : GraphInput) → AcceptedGraph g → (n : ℕ) → Decides (is_in_use (graph_of g) n) (InUse (graph_of g) n)
@@ -74,11 +79,17 @@ in_use_decides g w n = record {
 pub in_use_means : (g : GraphInput) (node : ℕ) → check_asked g node ≡ Accepted → Decides (is_in_use (graph_of g) node) (InUse (graph_of g) node)
 in_use_means g node e = in_use_decides g (accepted_asked g node e).0 node
 
--- the answer and its meaning; h is the graph that was accepted
-pub in_use_answer : (g : GraphInput) (node : ℕ) {h : GraphInput} {yes : ℕ} → check_asked g node ≡ Accepted → h ≡ g → yes ≡ cond (holds (upward h.count (triples_of h.numbers) h.live) node) 1 0
+-- so of an accepted call the result is a value, which is 1 exactly where the node is in use
+pub in_use_answer : (g : GraphInput) (node : ℕ) {r : Result ℕ Refusal} → check_asked g node ≡ Accepted → r ≡ answer_of (in_use_reply g node)
+    → (yes : ℕ) × (r ≡ Ok yes) × Decides (eqb yes 1) (InUse (graph_of g) node)
+unfolding in_use_reply
+in_use_answer g node a e = answer_decides _ a (in_use_means g node a) e
+
+-- the answer by the bit that the call reads, and its meaning; h is the graph that was accepted
+pub in_use_bit : (g : GraphInput) (node : ℕ) {h : GraphInput} {yes : ℕ} → check_asked g node ≡ Accepted → h ≡ g → yes ≡ cond (holds (upward h.count (triples_of h.numbers) h.live) node) 1 0
     → Answers (in_use_reply g node) (InUse (graph_of g) node) yes
 unfolding in_use_reply
-in_use_answer g node {h} {yes} a e f =
+in_use_bit g node {h} {yes} a e f =
     let is : yes ≡ cond (holds (upward g.count (triples_of g.numbers) g.live) node) 1 0 = rw e at f in
     answers _ a (done_result is (in_use_done g node _ _ a refl refl)) (in_use_means g node a)
 
@@ -116,10 +127,17 @@ pub conditional_means : (g : GraphInput) (node : ℕ) → check_asked g node ≡
 conditional_means g node e = let w = (accepted_asked g node e).0 in
     record { sound = conditional_sound (graph_of g) node; complete = conditional_complete (graph_of g) node (parents_lt g w) (many_below g w) }
 
-pub conditional_answer : (g : GraphInput) (node : ℕ) {h : GraphInput} {m yes : ℕ} → check_asked g node ≡ Accepted → h ≡ g → ManyIncoming (triples_of h.numbers) m
+-- so of an accepted call the result is a value, which is 1 exactly where the node is conditional
+pub conditional_answer : (g : GraphInput) (node : ℕ) {r : Result ℕ Refusal} → check_asked g node ≡ Accepted → r ≡ answer_of (conditional_reply g node)
+    → (yes : ℕ) × (r ≡ Ok yes) × Decides (eqb yes 1) (Conditional (graph_of g) node)
+unfolding conditional_reply
+conditional_answer g node a e = answer_decides _ a (conditional_means g node a) e
+
+-- the answer by the bit that the call reads, and its meaning; h is the graph that was accepted
+pub conditional_bit : (g : GraphInput) (node : ℕ) {h : GraphInput} {m yes : ℕ} → check_asked g node ≡ Accepted → h ≡ g → ManyIncoming (triples_of h.numbers) m
     → yes ≡ cond (holds (upward h.count (triples_of h.numbers) m) node) 1 0 → Answers (conditional_reply g node) (Conditional (graph_of g) node) yes
 unfolding conditional_reply
-conditional_answer g node {h} {m} {yes} a e w f =
+conditional_bit g node {h} {m} {yes} a e w f =
     let is : yes ≡ cond (holds (upward g.count (triples_of g.numbers) m) node) 1 0 = rw e at f in
     let many : ManyIncoming (triples_of g.numbers) m = rw e at w in
     answers _ a (done_result is (conditional_done g node _ _ a refl many)) (conditional_means g node a)

@@ -1,7 +1,7 @@
 // Graphs as they are handed over, checks 12 to 14, and the graphs that these accept. Assumes nothing.
-ghost use Rattle.std.specs.Prelude.{◌≡◌, ◌+◌, ◌/◌, ◌^◌, ◌<◌, ◌≤◌, true, ltb, length, None, Err, IfSome, IfOk, OnOk, IfErr};
+ghost use Rattle.std.specs.Prelude.{◌≡◌, not, ◌+◌, ◌/◌, ◌^◌, ◌<◌, ◌≤◌, true, ltb, length, None, Err, IfSome, IfOk, OnOk, IfErr};
+ghost use Rattle.std.specs.List.{find, range_with_len};
 ghost use Rattle.base.specs.Sizes.{max_locals};
-ghost use Rattle.base.specs.Lists.{first_bad};
 ghost use Rattle.base.specs.Refusals.{Accepted, check, check_whole};
 ghost use Rattle.dataflow_domains.specs.Sets.{mask};
 ghost use Rattle.borrow_analysis.specs.Graph.{graph_input, input_of, nodes_ok, triple_ok, length_place, triples_bad, next_triples, check_asked, check_graphs};
@@ -68,15 +68,10 @@ impl<'a> InputGraph<'a> {
 
     // The first triple that is wrong.
     fn first_bad(self) -> Option<usize>
-        ensures first { result ≡ first_bad (length self.entry.triples.now / 3) 0 (triple_ok self.entry.nodes self.entry.triples.now) }
+        ensures first { result ≡ find (λ i. not (triple_ok self.entry.nodes self.entry.triples.now i)) (range_with_len 0 (length self.entry.triples.now / 3)) }
         ensures within { IfSome result (λ i. i < length self.entry.triples.now / 3) }
     {
-        for i in 0..self.triples.len() / 3 {
-            if !self.triple_ok(i) {
-                return Some(i);
-            }
-        }
-        None
+        (0..self.triples.len() / 3).find(|&i| !self.triple_ok(i))
     }
 
     // The place at which check 13 fails.

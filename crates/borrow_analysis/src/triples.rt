@@ -32,7 +32,7 @@ pub fn triple_at(triples: &[u32], i: usize) -> Triple
 #[derive(Clone, Copy)]
 pub struct Triples<'a> {
     pub numbers: &'a [u32],
-    ghost inside: { NodesBelow max_locals numbers.now },
+    pub ghost inside: { NodesBelow max_locals numbers.now },
 }
 
 impl<'a> Triples<'a> {

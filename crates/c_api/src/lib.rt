@@ -23,6 +23,7 @@ ghost use Rattle.pages.specs.Page.{page_reply};
 ghost use Rattle.c_api.specs.Packed.{packed, check_reply};
 
 use base::Refusal;
+use borrow_analysis::graph::InputGraph;
 use sheet_checks::check::check;
 
 // An answer in one number.
@@ -103,7 +104,12 @@ pub fn sorzibelu_in_use(nodes: u32, live: u64, triples: &[u32], node: u32) -> u6
     ensures result { result ≡ packed (answer_of (in_use_reply (graph_input nodes live triples.now) node)) }
     ensures means { IfOk (answer_of (in_use_reply (graph_input nodes live triples.now) node)) (λ m. Decides (eqb m 1) (InUse (graph_of (graph_input nodes live triples.now)) node)) }
 {
-    pack(borrow_info::in_use(nodes, live, triples, node))
+    let graph = InputGraph {
+        nodes,
+        live,
+        triples,
+    };
+    pack(borrow_info::in_use(graph, node))
 }
 
 // Whether a node is conditional: 1 or 0.
@@ -111,7 +117,12 @@ pub fn sorzibelu_conditional(nodes: u32, live: u64, triples: &[u32], node: u32) 
     ensures result { result ≡ packed (answer_of (conditional_reply (graph_input nodes live triples.now) node)) }
     ensures means { IfOk (answer_of (conditional_reply (graph_input nodes live triples.now) node)) (λ m. Decides (eqb m 1) (Conditional (graph_of (graph_input nodes live triples.now)) node)) }
 {
-    pack(borrow_info::conditional(nodes, live, triples, node))
+    let graph = InputGraph {
+        nodes,
+        live,
+        triples,
+    };
+    pack(borrow_info::conditional(graph, node))
 }
 
 // How many nodes die, and each as one byte of `out`.
@@ -128,15 +139,17 @@ pub fn sorzibelu_dying(
     ensures written { out.new ≡ output_after (dying_reply (graph_input nodes live triples.now) (graph_input next_nodes next_live next_triples.now) (length out.old)) out.old }
     ensures means { IfOk (answer_of (dying_reply (graph_input nodes live triples.now) (graph_input next_nodes next_live next_triples.now) (length out.old))) (λ m. DyingList (graph_of (graph_input nodes live triples.now)) (graph_of (graph_input next_nodes next_live next_triples.now)) (take m out.new)) }
 {
-    pack(borrow_info::dying(
+    let here = InputGraph {
         nodes,
         live,
         triples,
-        next_nodes,
-        next_live,
-        next_triples,
-        out,
-    ))
+    };
+    let next = InputGraph {
+        nodes: next_nodes,
+        live: next_live,
+        triples: next_triples,
+    };
+    pack(borrow_info::dying(here, next, out))
 }
 
 // How many bytes the text of livelist has, and the text at the front of `out`.

@@ -1,14 +1,15 @@
 -- The checks of a class set one after the other, what live replies to a sheet with its own bytes lent, and the outputs sheet by sheet. Assumes nothing.
 use Rattle.base.specs.declared.Refusal.{Refusal}
 use Rattle.base.specs.declared.Refusal.TheVariants.{Length, OutputShort, FirstBlock, TooManySheets}
-use Rattle.std.specs.Prelude.{◌≡◌, refl, true, false, ◌&&◌, List, ◌++◌, ℕ, suc, ◌+◌, ◌-◌, ◌*◌, ◌%◌, ◌≤◌, ◌<◌, eqb, leb, length, take, drop, Result, Ok, Err}
-use Rattle.std.proofs.Common.{sym, ◌∙◌, subst, add-one, arith, le-leb, leb-true, length-take, length-drop, ap, ap₂}
+use Rattle.std.specs.Prelude.{◌≡◌, refl, ◌≢◌, Bool, true, false, ◌&&◌, List, [], ◌∷◌, ◌++◌, ℕ, suc, ◌+◌, ◌-◌, ◌*◌, ◌%◌, ◌≤◌, ◌<◌, eqb, leb, length, take, drop, Result, Ok, Err}
+use Rattle.std.proofs.Common.{sym, ◌∙◌, subst, add-one, arith, eq-eqb, ne_eqb, le-leb, leb-true, length-take, length-drop, ap, ap₂}
+use Rattle.std.proofs.Math.Bool.{and-false}
 use Rattle.std.proofs.lemmas.Bool.{lt-leb}
 use Rattle.base.specs.Sizes.{block_bytes, pair_bytes, max_sheets, slot_bytes, answer_numbers}
 use Rattle.base.specs.Lists.{joins}
-use Rattle.base.specs.Bytes.{part}
+use Rattle.base.specs.Bytes.{part, u16_at}
 use Rattle.base.specs.JoinLaws.{joins_long, piece_rest, piece_more}
-use Rattle.base.specs.Refusals.{Verdict, Accepted, ◌then◌, lends, Reply, Done, answer_of, output_after}
+use Rattle.base.specs.Refusals.{Verdict, Accepted, ◌then◌, lends, Reply, Done, answer_of, output_after, number_of, place_of}
 use Rattle.base.specs.RefusalLaws.{then_goes, then_stops, accepted_whole, refused_whole, passed, passed_whole, lends_short, lends_enough}
 use Rattle.base.specs.ReplyLaws.{reply_refused, reply_done}
 use Rattle.base.specs.WriteLaws.{length_kept}
@@ -22,6 +23,25 @@ use Rattle.class_set.specs.Room.{ClassRoom}
 use Rattle.class_set.specs.ClassSet.{starts_at, sheets_in, start_of, sheet_at, check_class, alone_at, slot_after, numbers_of, sets_reply, answers_reply}
 
 -- ---- the checks of the whole
+
+-- 1: no whole number of blocks; none; and some
+pub bad_length : (n : ℕ) → n % block_bytes ≢ 0 → leb 1 n && eqb (n % block_bytes) 0 ≡ false
+bad_length n h = ap (λ (b : Bool). leb 1 n && b) (ne_eqb _ _ h) ∙ and-false (leb 1 n)
+
+pub no_length : (n : ℕ) → n ≡ 0 → leb 1 n && eqb (n % block_bytes) 0 ≡ false
+no_length n e = ap (λ (b : Bool). b && eqb (n % block_bytes) 0) (lt-leb 1 n (omega arith))
+
+pub good_length : (n : ℕ) → n ≢ 0 → n % block_bytes ≡ 0 → leb 1 n && eqb (n % block_bytes) 0 ≡ true
+good_length n h e = ap₂ ◌&&◌ (le-leb 1 n (omega arith)) (eq-eqb _ _ e)
+
+-- 16: the first block is numbered 0; and otherwise
+pub first_zero : (s : List ℕ) {n : ℕ} → n ≡ u16_at s 0 → n ≡ 0 → starts_at s 0 ≡ true
+unfolding starts_at
+first_zero s e z = eq-eqb (u16_at s 0) 0 (sym e ∙ z)
+
+pub first_other : (s : List ℕ) {n : ℕ} → n ≡ u16_at s 0 → n ≢ 0 → starts_at s 0 ≡ false
+unfolding starts_at
+first_other s e h = ne_eqb (u16_at s 0) 0 (λ z. h (e ∙ z))
 
 module _ (s : List ℕ) (lent numbers : ℕ) where
   pub class_length : leb 1 (length s) && eqb (length s % block_bytes) 0 ≡ false → check_class s lent numbers ≡ Err Length
@@ -184,3 +204,13 @@ module _ (s sets answers : List ℕ) (e : check_class s (length sets) (length an
 
   pub answers_long : length (joins (sheets_in s) (numbers_at s)) ≡ answer_numbers * sheets_in s
   answers_long = joins_long answer_numbers (numbers_at s) (sheets_in s) (λ k h. numbers_long (answer_of (alone_at s k)))
+
+-- ---- the three numbers of an answer
+
+-- of an accepted sheet: 0, 0 and the count
+pub numbers_accepted : {r : Result ℕ Refusal} {v : ℕ} → Ok v ≡ r → 0 ∷ 0 ∷ v ∷ [] ≡ numbers_of r
+numbers_accepted e = ap numbers_of e
+
+-- of a refused one: its number, its place and 0
+pub numbers_refused : {r : Result ℕ Refusal} {e : Refusal} → Err e ≡ r → number_of e ∷ place_of e ∷ 0 ∷ [] ≡ numbers_of r
+numbers_refused q = ap numbers_of q

@@ -1,5 +1,5 @@
 -- Where the sheets of a class set start, as the code finds it, and that each is a part of it. Assumes nothing.
-use Rattle.std.specs.Prelude.{◌≡◌, refl, Bool, true, false, cond, List, ◌∷◌, length, ℕ, zero, suc, ◌+◌, ◌-◌, ◌*◌, ◌<◌, get_or, Some}
+use Rattle.std.specs.Prelude.{◌≡◌, refl, Bool, true, false, cond, List, [], ◌∷◌, length, ℕ, zero, suc, ◌+◌, ◌-◌, ◌*◌, ◌≤◌, ◌<◌, get_or, Some}
 use Rattle.std.specs.List.{filter, find, range_with_len}
 use Rattle.std.specs.Option.{unwrap_or}
 use Rattle.std.proofs.Common.{sym, ◌∙◌, subst, add-one, ap, ap₂, arith}
@@ -8,7 +8,7 @@ use Rattle.base.specs.Sizes.{block_bytes}
 use Rattle.base.specs.Lists.{keep}
 use Rattle.base.specs.Bytes.{part}
 use Rattle.base.specs.ListLaws.{Kept, in_keep, get_d_in}
-use Rattle.base.specs.SearchLaws.{keep_next}
+use Rattle.base.specs.SearchLaws.{keep_here, keep_pass, keep_end, keep_next}
 use Rattle.class_set.specs.ClassSet.{blocks_in, starts_at, starts_of, sheets_in, start_of, sheet_at}
 
 -- ---- the library's words of a range, and `keep`
@@ -49,6 +49,20 @@ module _ (s : List ℕ) where
 
   pub found : (b : ℕ) → unwrap_or (find (starts_at s) (range_with_len b (blocks_in s - b))) (blocks_in s) ≡ first_from b
   found b = kept_first (blocks_in s - b) b (blocks_in s) (starts_at s)
+
+  -- block b is a start: one more than from the next block on, and the first
+  pub count_here : (b : ℕ) → b < blocks_in s → starts_at s b ≡ true → length (starts_from b) ≡ 1 + length (starts_from (b + 1))
+  count_here b h e = ap length (keep_here (blocks_in s) b (starts_at s) h e) ∙ (omega arith)
+
+  pub first_here : (b : ℕ) → b < blocks_in s → starts_at s b ≡ true → first_from b ≡ b
+  first_here b h e = ap (λ (l : List ℕ). get_or l 0 (blocks_in s)) (keep_here (blocks_in s) b (starts_at s) h e)
+
+  -- it is none; and behind the last block there are none
+  pub starts_pass : (b : ℕ) → b < blocks_in s → starts_at s b ≡ false → starts_from b ≡ starts_from (b + 1)
+  starts_pass b h e = keep_pass (blocks_in s) b (starts_at s) h e
+
+  pub starts_end : (b : ℕ) → blocks_in s ≤ b → starts_from b ≡ []
+  starts_end b h = keep_end (blocks_in s) b (starts_at s) h
 
   -- ---- sheet after sheet
 

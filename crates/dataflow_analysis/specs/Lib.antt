@@ -11,5 +11,6 @@ pub mod WorklistLaws
 pub mod LeastLaws
 pub mod MaskListLaws
 pub mod QueueLaws
+pub mod FrontLaws
 pub mod ReceiptLaws
 pub mod RunMapLaws

@@ -57,8 +57,6 @@ pub struct Worklist<'a> {
     pub met: &'a mut [bool],
     pub queue: &'a mut [u16],
     pub cursor: Cursor,
-    ghost nodes: { length sets.now ≡ length met.now },
-    ghost fits: { cursor.head + cursor.len ≤ length queue.now },
 }
 
 impl<'a> Worklist<'a> {
@@ -66,7 +64,8 @@ impl<'a> Worklist<'a> {
 
     // Node p receives the set m: it joins the list where it is first met or its set grows.
     pub fn receive(&mut self, p: u16, m: LiveVarState)
-        requires inside { p < length self.now.met.now }
+        requires set_inside { p < length self.now.sets.now }
+        requires mark_inside { p < length self.now.met.now }
         requires room { news_at self.now p (mask m) ≡ true → self.now.cursor.head + self.now.cursor.len < length self.now.queue.now }
         ensures { Received self.old p (mask m) self.new }
     {
@@ -82,6 +81,7 @@ impl<'a> Worklist<'a> {
 
     // The node that waits first, and the cursor past it.
     fn first(&self) -> Option<(u16, Cursor)>
+        requires { self.now.cursor.head + self.now.cursor.len ≤ length self.now.queue.now }
         ensures { result ≡ taken_of (waiting self.now.queue.now self.now.cursor) self.now.cursor }
     {
         self.cursor.take(self.queue)
@@ -89,6 +89,7 @@ impl<'a> Worklist<'a> {
 
     // The node that waits first, off the list.
     pub fn take(&mut self) -> Option<u16>
+        requires { self.now.cursor.head + self.now.cursor.len ≤ length self.now.queue.now }
         ensures none { IfNone result (Ended self.old self.new) }
         ensures some { IfSome result (λ k. Taken self.old k self.new) }
     {

@@ -1,5 +1,5 @@
--- What base does not say of lists: the elements of `take`; `map` under `take`, `drop`, `tab` and `gather`; `has` of `keep`; `firsts`, also under `map`. Assumes nothing.
-use Rattle.std.specs.Prelude.{◌≡◌, Bool, false, ◌&&◌, ℕ, zero, suc, ◌+◌, ◌≤◌, ◌<◌, ltb, get_or, length, take, drop, refl, cond, List, [], ◌∷◌, ◌++◌, map}
+-- What base does not say of lists: the elements of `take`; `map` under `tab` and `gather`; `has` of `keep`; `firsts`, also under `map`. Assumes nothing.
+use Rattle.std.specs.Prelude.{◌≡◌, Bool, false, ◌&&◌, ℕ, zero, suc, ◌+◌, ◌≤◌, ◌<◌, ltb, get_or, length, take, refl, cond, List, [], ◌∷◌, ◌++◌, map}
 use Rattle.std.proofs.Common.{sym, ap, ap₂, ◌∙◌, subst, true≢false, arith, ltb-true, lt-ltb, get_or-take, length-take-le, ⊎_elim, append-nil, append_assoc}
 use mathlib.Core.List.{Memᴰ}
 use Rattle.base.specs.Lists.{tab, keep, gather, has, firsts}
@@ -20,16 +20,6 @@ module _ (n i : ℕ) (xs : List ℕ) (h : i < n) (long : n ≤ length xs) where
   map_take_at g = get_d_map_lt g (take n xs) i 0 0 (omega (arith, many)) ∙ ap g (get_or-take n xs i 0 h)
 
 -- ---- `map`
-
-pub take_map : {A B : Type 0} (f : A → B) (n : ℕ) (xs : List A) → take n (map f xs) ≡ map f (take n xs)
-take_map f zero xs = refl
-take_map f (suc n) [] = refl
-take_map f (suc n) (x ∷ xs) = ap₂ ◌∷◌ refl (take_map f n xs)
-
-pub drop_map : {A B : Type 0} (f : A → B) (n : ℕ) (xs : List A) → drop n (map f xs) ≡ map f (drop n xs)
-drop_map f zero xs = refl
-drop_map f (suc n) [] = refl
-drop_map f (suc n) (x ∷ xs) = drop_map f n xs
 
 pub tab_map : {A B : Type 0} (g : A → B) (n i : ℕ) (f' : ℕ → B) (f : ℕ → A) → ((k : ℕ) → k < i + n → f' k ≡ g (f k)) → tab n i f' ≡ map g (tab n i f)
 unfolding tab

@@ -3,7 +3,7 @@ use Rattle.std.specs.Prelude.{◌≡◌, get_or, length, refl, List, [], ◌∷�
 use Rattle.std.proofs.Common.{sym, ap, ap₂, subst, ◌∙◌, zero-add, arith}
 use mathlib.Core.List.{Memᴰ}
 use Rattle.std.proofs.Math.ListN.{get_or-eq_default}
-use Rattle.std.proofs.lemmas.List.{length-map}
+use Rattle.std.proofs.lemmas.List.{length-map, take-map, drop-map}
 use Rattle.base.specs.Lists.{tab, Distinct}
 use Rattle.base.specs.ListLaws.{in_take, in_drop, get_d_in, get_d_tab, length_tab}
 use Rattle.base.specs.JoinLaws.{by_lt}
@@ -20,7 +20,7 @@ use Rattle.livevar_analysis.specs.Analysis.{execute_all, rest_of, out_of, state_
 use Rattle.livevar_analysis.specs.Output.{info_by, infos_by}
 use Rattle.eliminate_unused_vars.specs.Remap.{remap, remap_set}
 use Rattle.eliminate_unused_vars.specs.Renumbered.{remap_info}
-use Rattle.eliminate_unused_vars.specs.MoreListLaws.{take_map, drop_map, tab_map}
+use Rattle.eliminate_unused_vars.specs.MoreListLaws.{tab_map}
 use Rattle.eliminate_unused_vars.specs.RemapSetLaws.{Stays, stays_none, stays_union, remap_none, remap_union, remap_eqb}
 use Rattle.eliminate_unused_vars.specs.Remaps.{Remaps}
 use Rattle.eliminate_unused_vars.specs.RemapLaws.{keeps_flow}
@@ -53,8 +53,8 @@ module _ (stay : List ℕ) (once : Distinct stay) (code : List Bytecode) (ok : (
   rest_image : (k : ℕ) → rest_of new k ≡ map (remap stay) (rest_of code k)
   unfolding rest_of
   rest_image k =
-      ap₂ (λ (u : ℕ) (rs : List Bytecode). take (suc u - k) rs) (upper_alike (keeps_flow stay) code k) (drop_map (remap stay) k code)
-      ∙ take_map (remap stay) (suc (upper_of code k) - k) (drop k code)
+      ap₂ (λ (u : ℕ) (rs : List Bytecode). take (suc u - k) rs) (upper_alike (keeps_flow stay) code k) (drop-map (remap stay) k code)
+      ∙ take-map (remap stay) (suc (upper_of code k) - k) (drop k code)
 
   rest_ok : (k : ℕ) (r : Bytecode) → Memᴰ r (rest_of code k) → Remaps stay r
   unfolding rest_of
@@ -106,7 +106,7 @@ module _ (stay : List ℕ) (once : Distinct stay) (code : List Bytecode) (ok : (
   unfolding info_of
   info_image k m h =
       let behind = drop 1 (rest_of code k) in
-      let a : execute_all (drop 1 (rest_of new k)) (remap_set stay m) ≡ remap_set stay (execute_all behind m) = ap (λ (rs : List Bytecode). execute_all rs (remap_set stay m)) (ap (drop 1) (rest_image k) ∙ drop_map (remap stay) 1 (rest_of code k)) ∙ all_image behind (λ r i. rest_ok k r (in_drop 1 (rest_of code k) i)) m in
+      let a : execute_all (drop 1 (rest_of new k)) (remap_set stay m) ≡ remap_set stay (execute_all behind m) = ap (λ (rs : List Bytecode). execute_all rs (remap_set stay m)) (ap (drop 1) (rest_image k) ∙ drop-map (remap stay) 1 (rest_of code k)) ∙ all_image behind (λ r i. rest_ok k r (in_drop 1 (rest_of code k) i)) m in
       let b : execute (at new k) (execute_all (drop 1 (rest_of new k)) (remap_set stay m)) ≡ remap_set stay (execute (at code k) (execute_all behind m)) = ap₂ execute (at_alike (keeps_flow stay) code k) a ∙ execute_remapped stay (at code k) (ok (at code k) (get_d_in code k nop h)) once (execute_all behind m) in
       ap₂ (λ (x y : ℕ). record { before = x; after = y }) b a
 

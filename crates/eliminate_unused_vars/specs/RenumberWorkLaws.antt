@@ -99,8 +99,5 @@ rest_is s n m x en em ex = rw (en, em, ex)
 
 -- ---- the sheet
 
-pub new_written : (s stay head before : List ℕ) (r : ℕ) (after : List ℕ) → stay ≡ staying_in s → heading_rest head ≡ rest_with s (length stay) (remap_set stay (refs_of s))
-    → SheetWritten (sheet_of (heading_rest head) (renumbered_code s)) before r after → SheetWritten (renumbered_sheet s) before r after
-unfolding renumbered_rest
-new_written s stay head before r after all e w =
-    subst (λ (x : List ℕ). SheetWritten (sheet_of x (renumbered_code s)) before r after) (e ∙ ap (λ (l : List ℕ). rest_with s (length l) (remap_set l (refs_of s))) all) w
+pub new_written : (s head before : List ℕ) (r : ℕ) (after : List ℕ) → heading_rest head ≡ renumbered_rest s → SheetWritten (sheet_of (heading_rest head) (renumbered_code s)) before r after → SheetWritten (renumbered_sheet s) before r after
+new_written s head before r after e w = subst (λ (x : List ℕ). SheetWritten (sheet_of x (renumbered_code s)) before r after) e w

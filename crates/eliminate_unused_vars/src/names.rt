@@ -10,14 +10,14 @@ ghost use Rattle.eliminate_unused_vars.specs.Renumber.{staying_in};
 use base::MAX_LOCALS;
 use base::numbering::Numbering;
 use sheet::accepted::AcceptedSheet;
-use sheet::reader::u16_at;
+use sheet::reader::user_locals_of;
 use stackless_bytecode::Bytecode;
 use std::marker::Model;
 
 // Locals that have new numbers: seen as their list, in the order of the numbers.
 #[derive(Drop)]
 pub struct Names {
-    numbers: Numbering<MAX_LOCALS>,
+    numbers: Numbering<0, MAX_LOCALS>,
 }
 
 impl Model for Names {
@@ -28,13 +28,13 @@ impl Model for Names {
 
 impl Names {
     // All locals of a sheet that stay.
-    #[tactic(auto, unfolding(base::specs::Lists::firsts, base::specs::Lists::tab))]
+    #[tactic(auto, using(crate::specs::NamesLaws::user_next, crate::specs::NamesLaws::code_next, crate::specs::NamesLaws::range_at, crate::specs::NamesLaws::all_named), unfolding(base::specs::Lists::firsts, base::specs::Lists::tab, sheet::specs::Layout::user_locals_of))]
     pub fn of(sheet: AcceptedSheet<'_>) -> Names
         ensures { result ≡ staying_in sheet.entry.bytes.now }
     {
         let mut numbers = Numbering::new();
-        for user in 0..u16_at(sheet.bytes, 8) {
-            numbers.give(user);
+        for user in 0..user_locals_of(sheet.bytes) {
+            numbers.give(usize::from(user));
         }
         let mut names = Names { numbers };
         for k in 0..sheet.count {
@@ -50,7 +50,7 @@ impl Names {
         ensures { self.new ≡ firsts self.old list.now }
     {
         for &local in list {
-            self.numbers.give(u16::from(local));
+            self.numbers.give(usize::from(local));
         }
     }
 
@@ -60,10 +60,10 @@ impl Names {
         requires { InRange r }
         ensures { self.new ≡ firsts self.old (mentions r) }
     {
-        self.name_list(&r.dsts[..usize::from(r.ndst)]);
-        self.name_list(&r.srcs[..usize::from(r.nsrc)]);
-        if r.is_flagged() {
-            self.numbers.give(u16::from(r.abort));
+        self.name_list(r.destinations());
+        self.name_list(r.sources());
+        if let Some(local) = r.abort_local() {
+            self.numbers.give(usize::from(local));
         }
     }
 

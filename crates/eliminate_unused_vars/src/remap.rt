@@ -15,6 +15,7 @@ use sheet_writer::writer::encode;
 use stackless_bytecode::Bytecode;
 
 // The places of a list under the new numbers.
+#[tactic(auto, using(crate::specs::RemapCodeLaws::renamed_all))]
 fn remap_list(list: &[u8], names: &Names) -> [u8; LIST_PLACES]
     requires few { length list.now ≤ list_places }
     requires named { (i : ℕ) → i < length list.now → Memᴰ (get_or list.now i 0) names.now }
@@ -33,20 +34,20 @@ fn remap_all_vars(r: Bytecode, names: &Names) -> Bytecode
     requires { Remaps names.now r }
     ensures { result ≡ remap names.now r }
 {
-    let abort = if r.is_flagged() {
-        names.number(r.abort)
-    } else {
-        r.abort
+    let abort = match r.abort_local() {
+        Some(local) => names.number(local),
+        None => r.abort,
     };
     Bytecode {
         abort,
-        dsts: remap_list(&r.dsts[..usize::from(r.ndst)], names),
-        srcs: remap_list(&r.srcs[..usize::from(r.nsrc)], names),
+        dsts: remap_list(r.destinations(), names),
+        srcs: remap_list(r.sources(), names),
         ..r
     }
 }
 
-// The records of a sheet's code under the new numbers, one behind the other at the front of `flat`.
+// The records of a sheet's code under the new numbers, one behind the other at the front of `flat`. They are lent by index: of what is written through chunks_exact_mut a proof knows the length alone.
+#[tactic(auto, using(crate::specs::RemapLaws::remaps_at, crate::specs::RemapCodeLaws::renumbered_next))]
 pub fn remap_code(sheet: AcceptedSheet<'_>, names: &Names, flat: &mut [u8])
     requires all { names.now ≡ staying_in sheet.bytes.now }
     requires room { record_bytes * max_instructions ≤ length flat.old }

@@ -29,12 +29,12 @@ fn write_row(blocks: KeyedBlocks<'_>, lower: u16, out: &mut [u16])
     requires six { length out.old ≡ row_numbers }
     ensures { out.new ≡ row (code_in blocks.entry.by_offset.sheet) (keyed (code_in blocks.entry.by_offset.sheet)) lower }
 {
-    let next = successor_keys(blocks, lower);
+    let [first, second] = successor_keys(blocks, lower).pair(0);
     out[0] = lower;
     out[1] = blocks.by_offset.upper(lower);
     out[2] = blocks.key(lower);
-    out[3] = next.first().unwrap_or(0);
-    out[4] = next.second().unwrap_or(0);
+    out[3] = first;
+    out[4] = second;
     out[5] = 0;
 }
 

@@ -4,3 +4,4 @@ pub mod LabelCall
 pub mod Searches
 -- Laws.
 pub mod LabelLaws
+pub mod NameLaws

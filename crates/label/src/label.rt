@@ -10,9 +10,9 @@ ghost use Rattle.label.specs.LabelCall.{label_value, label_reply, LabelMeaning};
 ghost use Rattle.label.specs.Searches.{first_label, first_name};
 
 use base::{Refusal, SLOTS};
-use sheet::accepted::AcceptedSheet;
 use sheet::reader::decode;
-use sheet::search::RecordTest;
+use sheet::search::{RecordTest, first_failing};
+use sheet::shaped::ShapedSheet;
 use sheet_checks::check::read;
 use stackless_bytecode::Lookup;
 
@@ -54,24 +54,24 @@ impl RecordTest for NamesNone {
 
 // The first Label with this number.
 #[tactic(auto, unfolding(crate::specs::Searches::first_label))]
-fn find_label(sheet: AcceptedSheet<'_>, label: u32) -> Option<usize>
+fn find_label(sheet: ShapedSheet<'_>, label: u32) -> Option<usize>
     ensures first { result ≡ first_label (code_of sheet.entry.bytes.now) label }
     ensures within { IfSome result (λ k. k < sheet.entry.count) }
 {
-    sheet.first_failing(&OtherThan { label })
+    first_failing(&OtherThan { label }, sheet)
 }
 
 // The first instruction that names this label.
 #[tactic(auto, unfolding(crate::specs::Searches::first_name))]
-fn find_name(sheet: AcceptedSheet<'_>, label: u32) -> Option<usize>
+fn find_name(sheet: ShapedSheet<'_>, label: u32) -> Option<usize>
     ensures { result ≡ first_name (code_of sheet.entry.bytes.now) label }
 {
-    sheet.first_failing(&NamesNone { label })
+    first_failing(&NamesNone { label }, sheet)
 }
 
 // What a label is in the code of a sheet.
 #[tactic(auto, using(crate::specs::LabelLaws::lookup_searched))]
-fn look_up(sheet: AcceptedSheet<'_>, label: u32) -> Lookup
+fn look_up(sheet: ShapedSheet<'_>, label: u32) -> Lookup
     ensures lookup { result ≡ lookup (code_of sheet.entry.bytes.now) label }
     ensures few { offset_of result ≤ max_instructions }
 {
@@ -98,12 +98,12 @@ fn value_of(x: Lookup) -> u32
 }
 
 // The label call: 65,536 times the way, and the offset: way 1 named, 2 defined and never named, 3 undefined. Its last clause: what that says of the code.
-#[tactic(auto, unfolding(crate::specs::LabelCall::label_reply))]
+#[tactic(auto, using(crate::specs::LabelLaws::label_meaning), unfolding(crate::specs::LabelCall::label_reply))]
 pub fn label(sheet: &[u8], label: u32) -> Result<u32, Refusal>
     ensures result { result ≡ answer_of (label_reply sheet.now label) }
     ensures means { IfOk result (λ value. LabelMeaning (code_of sheet.now) label value) }
 {
     let mut targets = [0; SLOTS];
-    let accepted = read(sheet, &mut targets)?;
-    Ok(value_of(look_up(accepted, label)))
+    let accepted = read(sheet, &mut targets)?.accepted();
+    Ok(value_of(look_up(accepted.shaped(), label)))
 }

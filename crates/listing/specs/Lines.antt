@@ -25,9 +25,12 @@ lines line k (i ∷ is) = line k i ++ lines line (suc k) is
 unfoldable pub text_of : (ℕ → LiveVarInfo → List ℕ) → List LiveVarInfo → ℕ → List ℕ
 text_of line infos taken = lines line 0 infos ++ said (codes "taken ") taken ++ codes "\n"
 
--- of a refused one: one line
+-- of a refused one: one line, of the refusal's number and its place
+unfoldable pub refused_numbers : ℕ → ℕ → List ℕ
+refused_numbers num place = said (codes "refused ") num ++ said (codes " ") place ++ codes "\n"
+
 unfoldable pub refused_text : Refusal → List ℕ
-refused_text e = said (codes "refused ") (number_of e) ++ said (codes " ") (place_of e) ++ codes "\n"
+refused_text e = refused_numbers (number_of e) (place_of e)
 
 unfoldable pub printed : Verdict → Analyzed → List ℕ
 printed (Ok _) live = text_of line live.info live.taken

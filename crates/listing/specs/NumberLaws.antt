@@ -2,6 +2,7 @@
 use Rattle.std.specs.Prelude.{◌≡◌, false, cond, eqb, List, [], ◌∷◌, ℕ, zero, suc, ◌+◌, ◌-◌, ◌*◌, ◌/◌, ◌%◌, ◌^◌, ◌≤◌, ◌<◌, length, get_or, decimal}
 use Rattle.std.proofs.Common.{sym, ap, ◌∙◌, pow-suc, zero-add, pow-add, arith}
 use Rattle.std.specs.Fmt.{digits, digits_onto, digit_glyph}
+use Rattle.std.proofs.lemmas.Fmt.{length-decimal-le_wide}
 use Rattle.std.proofs.Math.Nat.{zero-div, div-div-eq-div-mul}
 use Rattle.base.specs.Sizes.{set_bytes}
 use Rattle.base.specs.Bytes.{number, Bytes}
@@ -20,6 +21,9 @@ onto_most (suc k) x rest =
 pub decimal_most : (x : ℕ) → length (decimal x) ≤ 64
 unfolding digits
 decimal_most x = onto_most 64 x []
+
+pub decimal_twenty : (x : ℕ) → x < 10 ^ 20 → length (decimal x) ≤ 20
+decimal_twenty x h = length-decimal-le_wide 20 x (omega arith) h (omega (arith, h))
 
 -- ---- hex: two digits of byte j
 

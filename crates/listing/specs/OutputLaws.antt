@@ -1,6 +1,6 @@
 -- Texts written one behind the other, and whole where there is room. Assumes nothing.
 use Rattle.std.specs.Prelude.{◌≡◌, refl, Bool, cond, List, [], ◌∷◌, ◌++◌, ℕ, suc, ◌+◌, ◌≤◌, ◌<◌, length, drop, set}
-use Rattle.std.proofs.Common.{sym, subst, add-one, arith, lt-ltb, le-ltb, length-set, take-append-drop, zero-add, add-zero}
+use Rattle.std.proofs.Common.{sym, ap, ◌∙◌, subst, add-one, arith, lt-ltb, le-ltb, length-set, take-append-drop, zero-add, add-zero}
 use Rattle.base.specs.JoinLaws.{by_lt}
 use Rattle.base.specs.PutLaws.{put_one, put_then, put_front}
 use Rattle.base.specs.Put.{Put}
@@ -12,6 +12,24 @@ pub write_append : (o : Output) (s t : List ℕ) → write o (s ++ t) ≡ write 
 unfolding write
 write_append o [] t = refl
 write_append o (x ∷ s) t = write_append (store o x) s t
+
+-- ---- the slice keeps its length
+
+store_length : (o : Output) (x : ℕ) → length (store o x).bytes ≡ length o.bytes
+unfolding store
+store_length o x =
+    by_lt o.next (length o.bytes)
+    (λ h. ap (λ b. length (cond b (record { bytes = set o.bytes o.next x; next = suc o.next }) o).bytes) (lt-ltb o.next (length o.bytes) h) ∙ length-set o.bytes o.next x)
+    (λ h. ap (λ b. length (cond b (record { bytes = set o.bytes o.next x; next = suc o.next }) o).bytes) (le-ltb o.next (length o.bytes) h))
+
+write_length : (o : Output) (t : List ℕ) → length (write o t).bytes ≡ length o.bytes
+unfolding write
+write_length o [] = refl
+write_length o (x ∷ t) = write_length (store o x) t ∙ store_length o x
+
+-- what a text leaves is as long as before
+pub wrote_length : {a e : ℕ} {old new t : List ℕ} → Wrote old a t new e → length new ≡ length old
+wrote_length {a} {e} {old} {new} {t} p = sym (ap (λ (o : Output). length o.bytes) p.is) ∙ write_length (record { bytes = old; next = a }) t
 
 -- ---- the place behind the text is inside the slice
 
@@ -42,7 +60,7 @@ stored old at x h = rw (lt-ltb at (length old) h)
 put_step : (old : List ℕ) (at x : ℕ) → at < length old → Put old at (x ∷ []) (set old at x) (suc at)
 put_step old at x h = subst (λ (n : ℕ). Put old at (x ∷ []) (set old at x) n) (add-one at) (put_one old at x h)
 
-put_write : (old : List ℕ) (at : ℕ) (t : List ℕ) → at + length t ≤ length old → Put old at t (write (record { bytes = old; next = at }) t).bytes (write (record { bytes = old; next = at }) t).next
+pub put_write : (old : List ℕ) (at : ℕ) (t : List ℕ) → at + length t ≤ length old → Put old at t (write (record { bytes = old; next = at }) t).bytes (write (record { bytes = old; next = at }) t).next
 unfolding write
 put_write old at [] h = put_nothing old at (omega arith)
 put_write old at (x ∷ t) h =

@@ -87,7 +87,7 @@ impl<'a> Writer<'a> {
 
     // The set in bytes p in hex: the highest byte first, two digits a byte.
     // (The crate hex keeps the order of the bytes, and can fail.)
-    #[tactic(auto, using(crate::specs::WriterLaws::texts, crate::specs::WriterLaws::text_hex_all))]
+    #[tactic(auto, using(crate::specs::WriterLaws::text_none, crate::specs::WriterLaws::text_hex, crate::specs::WriterLaws::text_hex_all))]
     fn put_hex(&mut self, p: &[u8])
         requires { length p.now ≡ set_bytes }
         ensures { self.new ≡ self.old with_text hex (number p.now) }

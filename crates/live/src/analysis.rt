@@ -14,18 +14,18 @@ use livevar_analysis::rules::{Rule, decode_rules};
 use livevar_analysis::tables::Tables;
 use livevar_engine::engine::{NODES, solve};
 use livevar_output::output::write_info;
-use sheet::accepted::AcceptedSheet;
+use sheet::accepted::ResolvedSheet;
 use sheet_checks::check::read;
 use stackless_control_flow_graph::graph::Graph;
 
 // The live sets of an accepted sheet, as bytes at the front of `out`; the result is how many blocks were taken.
-pub fn analyze(sheet: AcceptedSheet<'_>, out: &mut [u8]) -> u32
+pub fn analyze(sheet: ResolvedSheet<'_>, out: &mut [u8]) -> u32
     requires { pair_bytes * length (code_in sheet) ≤ length out.old }
     ensures { LiveWritten sheet.entry.bytes.now result out.old out.new }
 {
     let mut rules = [Rule::none(); MAX_INSTRUCTIONS];
     let mut sets = [LiveVarState::empty(); NODES];
-    decode_rules(sheet, &mut rules);
+    decode_rules(sheet.accepted(), &mut rules);
     let mut graph = Graph::new();
     graph_of(sheet, &mut graph);
     let tables = Tables {
@@ -36,7 +36,7 @@ pub fn analyze(sheet: AcceptedSheet<'_>, out: &mut [u8]) -> u32
         edges: &graph.edges,
     };
     let taken = solve(&tables, graph.count, &mut sets);
-    write_info(&rules, &graph.key_of_offset, sheet.count, &sets, out);
+    write_info(&rules, &graph.key_of_offset[..sheet.count], &sets, out);
     taken
 }
 

@@ -23,7 +23,7 @@ fn live_sheet(sheet: &[u8], sets: &mut [u8]) -> [u32; ANSWER_NUMBERS]
     }
 }
 
-// Every one of the m sheets.
+// Every one of the m sheets. Their parts are lent by index: of what is written through chunks_exact_mut a proof knows the length alone.
 fn live_sheets(sheets: &[u8], m: usize, sets: &mut [u8], answers: &mut [u32])
     requires count { m ≡ sheets_in sheets.now }
     requires sets { slot_bytes * m ≤ length sets.old }

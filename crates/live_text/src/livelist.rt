@@ -36,6 +36,7 @@ fn put_text(s: &[u8], out: &mut Writer)
 }
 
 // The text for any bytes, as far as `out` goes; the result is the place behind it.
+// As put_page and page of the crate page: three lines each, over the text and the room of another crate.
 pub fn put_livelist(s: &[u8], out: &mut [u8]) -> usize
     ensures written { Wrote out.old 0 (livelist s.now) out.new result }
     ensures inside { result ≤ length out.new }

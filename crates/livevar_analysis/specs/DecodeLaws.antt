@@ -1,6 +1,7 @@
 -- A decoded rule does what the live rule of its instruction says, and so does each rule in the slice. Assumes nothing.
 use Rattle.std.specs.Prelude.{◌≡◌, refl, ◌⊎◌, Bool, true, cond, List, [], ◌∷◌, ◌++◌, ℕ, ◌+◌, ◌^◌, ◌≤◌, ◌<◌, get_or, set, length, take, false, eqb}
-use Rattle.std.proofs.Common.{sym, ap, ◌∙◌, not-suc-le-zero, add-one, arith, get_or-set_same, get_or-set_other, take-suc, ⊎_elim, eq-eqb, ne_eqb}
+use Rattle.std.proofs.Common.{sym, ap, ◌∙◌, not-suc-le-zero, add-one, arith, get_or-set_same, get_or-set_other, get_or-take, length-take, take-suc, ⊎_elim, eq-eqb, ne_eqb}
+use Rattle.base.specs.Sizes.{max_locals}
 use Rattle.base.specs.ListLaws.{by_test, by_eq}
 use Rattle.dataflow_domains.specs.Mask.{bit, holds, union, minus, set_of}
 use Rattle.dataflow_domains.specs.MaskLaws.{ext, bit_union, bit_minus, bit_empty, bit_self, bit_other, bit_lt, minus_none}
@@ -9,7 +10,7 @@ use Rattle.stackless_bytecode.specs.declared.Bytecode.{Bytecode}
 use Rattle.stackless_bytecode.specs.Kinds.{Assign, Call, Ret, Load, Branch, Abort, Prop, at, dsts_of, srcs_of, is_flagged}
 use Rattle.livevar_analysis.specs.Live.{assigned, called, execute}
 use Rattle.livevar_analysis.specs.RuleLaws.{assign_rule, load_rule}
-use Rattle.livevar_analysis.specs.Rules.{applied, no_rule, rule_by, rule_at, Ruled}
+use Rattle.livevar_analysis.specs.Rules.{ListedLocals, applied, no_rule, rule_by, rule_at, Ruled}
 use Rattle.livevar_analysis.specs.declared.rules.Rule.{Rule}
 
 -- ---- the set of a list, one place after the other
@@ -66,12 +67,22 @@ applied_sources ss m = ap (union ss) (minus_none m)
 -- ---- each arm
 
 -- the abort local is asked for only of a flagged Call
+-- the locals of a list that is in range
+pub listed : {n : ℕ} {list xs : List ℕ} → ListedLocals n list → xs ≡ take n list → (i : ℕ) → i < length xs → get_or xs i 0 < max_locals
+listed {n} {list} h e i l =
+    let inside : i < n = omega (arith, ap length e, length-take n list) in
+    omega (arith, ap (λ (xs : List ℕ). get_or xs i 0) e, get_or-take n list i 0 inside, h.each i inside)
+
 pub flag_asked : (r : Bytecode) → r.kind ≡ Call → r.flag ≡ 1 → is_flagged r ≡ true
 unfolding is_flagged
 flag_asked r k f = rw (k, f)
 
+flag_is : (r : Bytecode) → r.kind ≡ Call → is_flagged r ≡ eqb r.flag 1
+unfolding is_flagged
+flag_is r k = rw k
+
 module _ (r : Bytecode) (kills gens m : ℕ) where
-  pub decoded_assign : r.kind ≡ Assign → kills ≡ 2 ^ get_or r.dsts 0 0 → gens ≡ set_of (take r.nsrc r.srcs) → applied true kills gens m ≡ execute r m
+  pub decoded_assign : r.kind ≡ Assign → kills ≡ 2 ^ get_or r.dsts 0 0 → gens ≡ set_of (srcs_of r) → applied true kills gens m ≡ execute r m
   unfolding srcs_of
   decoded_assign k e f = rw (e, f) (applied_assign (get_or r.dsts 0 0) (set_of (srcs_of r)) m ∙ sym (assign_rule r m k))
 
@@ -82,17 +93,19 @@ module _ (r : Bytecode) (kills gens m : ℕ) where
   unfolding execute dsts_of srcs_of
   call_is k = rw k
 
-  pub decoded_call : r.kind ≡ Call → (ds ss gone : ℕ) → ds ≡ set_of (take r.ndst r.dsts) → ss ≡ set_of (take r.nsrc r.srcs) → gone ≡ cond (eqb r.flag 1) (2 ^ r.abort) 0
+  pub decoded_call : r.kind ≡ Call → (ds ss gone : ℕ) → ds ≡ set_of (dsts_of r) → ss ≡ set_of (srcs_of r) → gone ≡ cond (is_flagged r) (2 ^ r.abort) 0
       → kills ≡ union ds gone → gens ≡ minus ss gone → applied false kills gens m ≡ execute r m
-  decoded_call k ds ss gone p q g e f = rw (e, f) (applied_call ds ss gone m ∙ rw (p, q, g) (sym (call_is k)))
+  unfolding dsts_of srcs_of
+  decoded_call k ds ss gone p q g e f = rw (e, f) (applied_call ds ss gone m ∙ rw (p, q, g, flag_is r k) (sym (call_is k)))
 
   -- Ret, Branch, Abort, Prop
   sources_is : (r.kind ≡ Ret) ⊎ ((r.kind ≡ Branch) ⊎ ((r.kind ≡ Abort) ⊎ (r.kind ≡ Prop))) → execute r m ≡ union (set_of (take r.nsrc r.srcs)) m
   unfolding execute srcs_of
   sources_is k = ⊎_elim (λ e. rw e) (⊎_elim (λ e. rw e) (⊎_elim (λ e. rw e) (λ e. rw e))) k
 
-  pub decoded_sources : (r.kind ≡ Ret) ⊎ ((r.kind ≡ Branch) ⊎ ((r.kind ≡ Abort) ⊎ (r.kind ≡ Prop))) → kills ≡ 0 → gens ≡ set_of (take r.nsrc r.srcs)
+  pub decoded_sources : (r.kind ≡ Ret) ⊎ ((r.kind ≡ Branch) ⊎ ((r.kind ≡ Abort) ⊎ (r.kind ≡ Prop))) → kills ≡ 0 → gens ≡ set_of (srcs_of r)
       → applied false kills gens m ≡ execute r m
+  unfolding srcs_of
   decoded_sources k e f = rw (e, f) (applied_sources (set_of (take r.nsrc r.srcs)) m ∙ sym (sources_is k))
 
   -- no kind that the rules name

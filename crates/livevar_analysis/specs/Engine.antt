@@ -7,7 +7,7 @@ use Rattle.dataflow_domains.specs.Sets.{mask}
 use Rattle.dataflow_domains.specs.declared.LiveVarState.{LiveVarState}
 use Rattle.dataflow_analysis.specs.declared.Worklist.{Worklist}
 use Rattle.dataflow_analysis.specs.Worklist.{begin, news, receive}
-use Rattle.dataflow_analysis.specs.Receipt.{state, SameSlices}
+use Rattle.dataflow_analysis.specs.Receipt.{state, state_at, ListFits, SameSlices}
 use Rattle.stackless_bytecode.specs.declared.Bytecode.{Bytecode}
 use Rattle.stackless_bytecode.specs.Kinds.{srcs_of}
 use Rattle.stackless_bytecode.specs.Sound.{Sound}
@@ -36,8 +36,10 @@ pub record RunTables (code : List Bytecode) (t : Tables) : Type 0 where
 
 -- ---- handing on
 
--- the nodes ps can receive m one after the other: where there is news the queue has a place
+-- the nodes ps can receive m one after the other: each has a set and a flag, and where there is news the queue has a place
 pub record CanHand (w : Worklist) (ps : List ℕ) (m : ℕ) : Type 0 where
+  pub list_fits : ListFits w
+  pub below_sets : (i : ℕ) → i < length ps → get_or ps i 0 < length w.sets.now
   pub below : (i : ℕ) → i < length ps → get_or ps i 0 < length w.met.now
   pub room : (i : ℕ) → i < length ps → news m (over (receive m) (state w) (take i ps)) (get_or ps i 0) ≡ true
       → (over (receive m) (state w) (take i ps)).taken + length (over (receive m) (state w) (take i ps)).list < length w.queue.now
@@ -46,6 +48,7 @@ pub record CanHand (w : Worklist) (ps : List ℕ) (m : ℕ) : Type 0 where
 pub record HandedOn (w : Worklist) (ps : List ℕ) (m : ℕ) (w₁ : Worklist) : Type 0 where
   pub state_is : state w₁ ≡ over (receive m) (state w) ps
   pub same_head : w₁.cursor.head ≡ w.cursor.head
+  pub list_fits : ListFits w₁
   pub same : SameSlices w w₁
 
 -- ---- one key
@@ -75,13 +78,15 @@ pub record CanHandKey (t : Tables) (w : Worklist) (k m : ℕ) : Type 0 where
 
 -- ---- the run
 
--- the tables are those of the code, and the list has the state in which key 1 waits
+-- the tables are those of the code, and the list has the state in which key 1 waits; there may be more sets than nodes
 pub record Begun (code : List Bytecode) (locals : ℕ) (t : Tables) (w : Worklist) : Type 0 where
   pub analyzable : Analyzable code locals
   pub tables : RunTables code t
   pub nodes : length w.met.now ≡ 2 + length (keyed code)
+  pub sets_fit : length w.met.now ≤ length w.sets.now
   pub list_long : length w.queue.now ≡ max_taken
-  pub state_is : state w ≡ begin (2 + length (keyed code)) 1
+  pub list_fits : ListFits w
+  pub state_is : state_at (2 + length (keyed code)) w ≡ begin (2 + length (keyed code)) 1
 
 -- of some code
 pub record CanRun (t : Tables) (w : Worklist) : Type 0 where
@@ -94,7 +99,7 @@ pub record RunInput (code : List Bytecode) (locals : ℕ) (t : Tables) (sets : L
   pub analyzable : Analyzable code locals
   pub tables : RunTables code t
   pub nodes : length met ≡ 2 + length (keyed code)
-  pub sets_long : length sets ≡ length met
+  pub sets_fit : length met ≤ length sets
   pub list_long : length q ≡ max_taken
   pub sets_blank : (k : ℕ) → get_or (map mask sets) k 0 ≡ 0
   pub met_blank : (k : ℕ) → get_or met k false ≡ false

@@ -2,6 +2,7 @@
 use Rattle.std.specs.Prelude.{◌≡◌, ◌⊎◌, Bool, true, false, cond, ◌&&◌, List, [], ◌∷◌, ◌++◌, map, ℕ, zero, suc, ◌+◌, ◌-◌, ◌≤◌, ◌<◌, eqb, get_or, length, take, drop, refl}
 use Rattle.std.proofs.Common.{sym, ap, ap₂, ◌∙◌, subst, inl, inr, add-one, arith, length-drop, take-suc, take_all, get_or-drop}
 use Rattle.std.proofs.lemmas.List.{length-map}
+use mathlib.Core.List.{Memᴰ}
 use Rattle.base.specs.Sizes.{max_number}
 use Rattle.base.specs.Lists.{over, tab}
 use Rattle.base.specs.ListLaws.{over_append, get_d_in}
@@ -11,7 +12,8 @@ use Rattle.dataflow_analysis.specs.declared.Worklist.{Worklist}
 use Rattle.dataflow_analysis.specs.Worklist.{State, news, receive}
 use Rattle.dataflow_analysis.specs.Lattice.{masks}
 use Rattle.dataflow_analysis.specs.QueueLaws.{list_length}
-use Rattle.dataflow_analysis.specs.Receipt.{state_of, state, news_at, SameSlices, Received}
+use Rattle.dataflow_analysis.specs.Receipt.{state_of, state, front, state_at, ListFits, news_at, SameSlices, Received}
+use Rattle.dataflow_analysis.specs.FrontLaws.{over_front}
 use Rattle.dataflow_analysis.specs.ReceiptLaws.{same_slices, same_then}
 use Rattle.stackless_bytecode.specs.declared.Bytecode.{Bytecode}
 use Rattle.stackless_bytecode.specs.Kinds.{at, nop}
@@ -74,13 +76,14 @@ execute_none code lower k m h = let none : k - lower ≡ 0 = omega arith in ap (
 pub record Handing (w₀ : Worklist) (ps : List ℕ) (m : ℕ) (w : Worklist) (i : ℕ) : Type 0 where
   pub state_is : state w ≡ over (receive m) (state w₀) (take i ps)
   pub same_head : w.cursor.head ≡ w₀.cursor.head
+  pub list_fits : ListFits w
   pub within : i ≤ length ps
   pub same : SameSlices w₀ w
 
 -- how many wait
-pub waits : (w : Worklist) → length (state w).list ≡ w.cursor.len
+pub waits : (w : Worklist) → ListFits w → length (state w).list ≡ w.cursor.len
 unfolding state_of
-waits w = list_length w.queue.now w.cursor w.fits
+waits w fits = list_length w.queue.now w.cursor fits
 
 at_taken : (w : Worklist) → (state w).taken ≡ w.cursor.head
 unfolding state_of
@@ -92,10 +95,13 @@ over_more f b xs i d h =
 
 module _ (w₀ : Worklist) (ps : List ℕ) (m : ℕ) (can : CanHand w₀ ps m) where
   pub hand_none : Handing w₀ ps m w₀ 0
-  hand_none = record { state_is = refl; same_head = refl; within = omega arith; same = same_slices w₀ }
+  hand_none = record { state_is = refl; same_head = refl; list_fits = can.list_fits; within = omega arith; same = same_slices w₀ }
 
   module _ (w : Worklist) (i : ℕ) (h : Handing w₀ ps m w i) (more : i < length ps) (p : ℕ) (e : p ≡ get_or ps i 0) where
     -- what `receive` requires
+    pub hand_set : p < length w.sets.now
+    hand_set = omega (arith, can.below_sets i more, h.same.sets_long)
+
     pub hand_inside : p < length w.met.now
     hand_inside = omega (arith, can.below i more, h.same.met_long)
 
@@ -104,20 +110,25 @@ module _ (w₀ : Worklist) (ps : List ℕ) (m : ℕ) (can : CanHand w₀ ps m) w
         let room : (state w).taken + length (state w).list < length w₀.queue.now =
         subst (λ (s : State masks). news m s (get_or ps i 0) ≡ true → s.taken + length s.list < length w₀.queue.now) (sym h.state_is) (can.room i more)
         (ap (news m (state w)) (sym e) ∙ t) in
-        omega (arith, waits w, room, h.same.queue_long, at_taken w)
+        omega (arith, waits w h.list_fits, room, h.same.queue_long, at_taken w)
 
     -- one node more has received
     pub hand_more : (w₁ : Worklist) → Received w p m w₁ → Handing w₀ ps m w₁ (i + 1)
     hand_more w₁ got = record {
       state_is = got.state_is ∙ ap₂ (receive m) h.state_is e ∙ sym (over_more (receive m) (state w₀) ps i 0 more);
       same_head = got.same_head ∙ h.same_head;
+      list_fits = got.fits h.list_fits;
       within = omega arith;
       same = same_then h.same got.same;
     }
 
   -- all have
   pub hand_all : (w : Worklist) (i : ℕ) → Handing w₀ ps m w i → length ps ≤ i → HandedOn w₀ ps m w
-  hand_all w i h end = record { state_is = h.state_is ∙ ap (over (receive m) (state w₀)) (take_all i ps end); same_head = h.same_head; same = h.same }
+  hand_all w i h end = record { state_is = h.state_is ∙ ap (over (receive m) (state w₀)) (take_all i ps end); same_head = h.same_head; list_fits = h.list_fits; same = h.same }
+
+-- nodes below n have received it in the state of the first n nodes too
+pub handed_at : (w : Worklist) (ps : List ℕ) (m : ℕ) (w₁ : Worklist) (n : ℕ) → ((p : ℕ) → Memᴰ p ps → p < n) → HandedOn w ps m w₁ → state_at n w₁ ≡ over (receive m) (state_at n w) ps
+handed_at w ps m w₁ n inside h = ap (front n) h.state_is ∙ sym (over_front n m ps inside (state w))
 
 -- ---- what a key hands on
 
@@ -176,6 +187,7 @@ pub record CanStep (t : Tables) (w : Worklist) (k : ℕ) : Type 0 where
   pub sound : Sound code
   pub tables : RunTables code t
   pub nodes : length w.met.now ≡ 2 + length (keyed code)
+  pub sets_fit : length w.met.now ≤ length w.sets.now
   pub few : length w.met.now ≤ max_number + 1
   pub inside : k < length w.met.now
   pub hands : CanHand w (leads code k) (given code w.sets.now k)
@@ -185,7 +197,7 @@ module _ (t : Tables) (w : Worklist) (k : ℕ) (can : CanStep t w k) where
   step_out =
       let b = can.tables.bounds in
       record {
-        own = omega (arith, can.inside, w.nodes);
+        own = omega (arith, can.inside, can.sets_fit);
         low = omega (arith, can.inside, can.nodes, b.lows_long);
         up = omega (arith, can.inside, can.nodes, b.ups_long);
         rule_room = λ block. omega (arith, can.tables.room, upper_inside can.code can.sound t.lower_of_key.now t.upper_of_key.now b k block (omega (arith, can.inside, can.nodes)));

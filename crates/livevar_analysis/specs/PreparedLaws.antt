@@ -10,7 +10,7 @@ use Rattle.stackless_bytecode.specs.declared.Bytecode.{Bytecode}
 use Rattle.stackless_bytecode.specs.Sound.{Sound}
 use Rattle.sheet.specs.Layout.{locals_of}
 use Rattle.sheet.specs.Code.{code_in}
-use Rattle.sheet.specs.declared.accepted.AcceptedSheet.{AcceptedSheet}
+use Rattle.sheet.specs.declared.accepted.ResolvedSheet.{ResolvedSheet}
 use Rattle.stackless_control_flow_graph.specs.Blocks.{lower_of, keyed, key_of}
 use Rattle.stackless_control_flow_graph.specs.BlockLaws.{lower_starts, lower_le, keyed_in}
 use Rattle.stackless_control_flow_graph.specs.CheckedSheetLaws.{checked_sound}
@@ -40,7 +40,7 @@ blank_sets zero s e k = refl
 blank_sets (suc n) s e zero = e
 blank_sets (suc n) s e (suc k) = blank_sets n s e k
 
-module _ (sheet : AcceptedSheet) where
+module _ (sheet : ResolvedSheet) where
   sound : Sound (code_in sheet)
   sound = checked_sound sheet.checked
 

@@ -1,6 +1,6 @@
 -- The main loop of the engine is the definition's run: its invariant, a turn, and its end. Assumes nothing.
 use Rattle.std.specs.Prelude.{◌≡◌, refl, Bool, true, false, cond, map, ℕ, zero, suc, ◌+◌, ◌-◌, ◌*◌, ◌^◌, ◌≤◌, ◌<◌, get_or, set, take, replicate, List, [], ◌∷◌, ◌++◌, length}
-use Rattle.std.proofs.Common.{sym, ◌∙◌, mul-le-mul, length-set, length-take, length-take-le, get_or-take, ext_get_or, take_all, ap, ap₂, subst, arith}
+use Rattle.std.proofs.Common.{sym, ◌∙◌, mul-le-mul, length-set, length-take, length-take-le, get_or-take, ext_get_or, ap, ap₂, subst, arith}
 use mathlib.Core.List.{Memᴰ}
 use Rattle.std.specs.Int.Count.{ones, ones-ones}
 use Rattle.std.proofs.Math.ListN.{get_or-map, get_or-eq_default}
@@ -21,7 +21,8 @@ use Rattle.dataflow_analysis.specs.MaskListLaws.{mask_laws, mask_size, met_insid
 use Rattle.dataflow_analysis.specs.declared.Worklist.{Worklist}
 use Rattle.dataflow_analysis.specs.Queue.{waiting, Queued}
 use Rattle.dataflow_analysis.specs.QueueLaws.{list_none, run_more, run_done}
-use Rattle.dataflow_analysis.specs.Receipt.{flag, state_of, state, SameSlices, Taken, Ended}
+use Rattle.dataflow_analysis.specs.Receipt.{flag, state_of, state, front, state_at, ListFits, SameSlices, Taken, Ended}
+use Rattle.dataflow_analysis.specs.FrontLaws.{news_front, over_front}
 use Rattle.dataflow_analysis.specs.ReceiptLaws.{same_slices, same_then}
 use Rattle.stackless_bytecode.specs.declared.Bytecode.{Bytecode}
 use Rattle.stackless_bytecode.specs.Sound.{Sound}
@@ -34,7 +35,7 @@ use Rattle.stackless_control_flow_graph.specs.Graph.{Edges}
 use Rattle.stackless_control_flow_graph.specs.FlowLaws.{keys_blocks}
 use Rattle.livevar_analysis.specs.Engine.{Analyzable, RunTables, leads, given, CanHand, HandedOn, CanOut, CanHandKey, Begun, CanRun, RunInput, SolveInput, Solved}
 use Rattle.livevar_analysis.specs.declared.tables.Tables.{Tables}
-use Rattle.livevar_analysis.specs.EngineLaws.{CanStep, step_out, step_hands, handed_as}
+use Rattle.livevar_analysis.specs.EngineLaws.{CanStep, step_out, step_hands, handed_as, handed_at}
 
 -- ---- how many keys there are, and how many are taken
 
@@ -117,65 +118,93 @@ module _ (code : List Bytecode) (locals : ℕ) (ok : Analyzable code locals) whe
 
   -- ---- a turn of the code: key k is taken, and w₁ is left
 
-  module _ (w w₁ : Worklist) (k : ℕ) (took : Taken w k w₁) (nodes : length w.met.now ≡ n) (long : length w.queue.now ≡ max_taken) (r : Runs code locals (state w)) where
+  module _ (w w₁ : Worklist) (k : ℕ) (took : Taken w k w₁) (nodes : length w.met.now ≡ n) (sets : n ≤ length w.sets.now) (long : length w.queue.now ≡ max_taken) (fits : ListFits w) (r : Runs code locals (state_at n w)) where
     pub key_inside : k < n
     key_inside =
-        met_inside (leads code) out n (state w) r.inv.ok k
-        (general.met_first mask_laws (leads code) out n whole (state w) k (state w₁).list took.first r.inv.ok)
+        met_inside (leads code) out n (state_at n w) r.inv.ok k
+        (general.met_first mask_laws (leads code) out n whole (state_at n w) k (state w₁).list took.first r.inv.ok)
 
-    own_is : get_or (state w).sets k 0 ≡ get_or (map mask w₁.sets.now) k 0
+    own_is : get_or (state_at n w).sets k 0 ≡ get_or (map mask w₁.sets.now) k 0
     unfolding state_of popped
-    own_is = sym (ap (λ (s : State masks). get_or s.sets k 0) took.state_is)
+    own_is = get_or-take n (map mask w.sets.now) k 0 key_inside ∙ sym (ap (λ (s : State masks). get_or s.sets k 0) took.state_is)
+
+    popped_is : state_at n w₁ ≡ popped (state_at n w) (state w₁).list
+    popped_is = ap (front n) took.state_is ∙ (unfold popped in refl)
+
+    leads_inside : (p : ℕ) → Memᴰ p (leads code k) → p < n
+    leads_inside = (whole.inside k).each
+
+    lead_inside : (i : ℕ) → i < length (leads code k) → get_or (leads code k) i 0 < n
+    lead_inside i h = leads_inside (get_or (leads code k) i 0) (get_d_in (leads code k) i 0 h)
 
     -- where p has news when the nodes of ps have received m, the list is not full
     abbrev Roomy : List ℕ → ℕ → ℕ → State masks → Type 0
     Roomy ps p m s = news m (over (receive m) s ps) p ≡ true → (over (receive m) s ps).taken + length (over (receive m) s ps).list < length w₁.queue.now
 
     room_before : (i : ℕ) → i < length (leads code k)
-        → Roomy (take i (leads code k)) (get_or (leads code k) i 0) (out k (get_or (state w).sets k 0)) (popped (state w) (state w₁).list)
+        → Roomy (take i (leads code k)) (get_or (leads code k) i 0) (out k (get_or (state_at n w).sets k 0)) (popped (state_at n w) (state w₁).list)
     room_before i h e =
-        let few = general.hand_fits mask_laws (leads code) out (mask_size locals) n 1 whole thin (omega arith) (state w) k (state w₁).list took.first r.inv (take i (leads code k)) (λ p m. in_take i (leads code k) m) (get_or (leads code k) i 0) (get_d_in (leads code k) i 0 h) e in
+        let few = general.hand_fits mask_laws (leads code) out (mask_size locals) n 1 whole thin (omega arith) (state_at n w) k (state w₁).list took.first r.inv (take i (leads code k)) (λ p m. in_take i (leads code k) m) (get_or (leads code k) i 0) (get_d_in (leads code k) i 0 h) e in
         omega (arith, below_bound _ few, bound_le, long, took.same.queue_long)
 
+    room_at : (i : ℕ) → i < length (leads code k) → Roomy (take i (leads code k)) (get_or (leads code k) i 0) (given code w₁.sets.now k) (state_at n w₁)
+    room_at i h =
+        subst (λ (m : ℕ). Roomy (take i (leads code k)) (get_or (leads code k) i 0) m (state_at n w₁)) (ap (out k) own_is)
+        (subst (λ (s : State masks). Roomy (take i (leads code k)) (get_or (leads code k) i 0) (out k (get_or (state_at n w).sets k 0)) s) (sym popped_is) (room_before i h))
+
+    -- whatever the number of sets
     room : (i : ℕ) → i < length (leads code k) → Roomy (take i (leads code k)) (get_or (leads code k) i 0) (given code w₁.sets.now k) (state w₁)
-    room i h =
-        subst (λ (m : ℕ). Roomy (take i (leads code k)) (get_or (leads code k) i 0) m (state w₁)) (ap (out k) own_is)
-        (subst (λ (s : State masks). Roomy (take i (leads code k)) (get_or (leads code k) i 0) (out k (get_or (state w).sets k 0)) s) (sym took.state_is) (room_before i h))
+    room i h e =
+        let ps = take i (leads code k) in
+        let p = get_or (leads code k) i 0 in
+        let m = given code w₁.sets.now k in
+        let st : State masks = over (receive m) (state w₁) ps in
+        let same : over (receive m) (state_at n w₁) ps ≡ front n st = over_front n m ps (λ q j. leads_inside q (in_take i (leads code k) j)) (state w₁) in
+        subst (λ (s : State masks). news m s p ≡ true → s.taken + length s.list < length w₁.queue.now) same (room_at i h) (news_front n m st p (lead_inside i h) ∙ e)
 
     -- those that k leads to can receive what it hands on
     pub runs_hands : CanHand w₁ (leads code k) (given code w₁.sets.now k)
     runs_hands = record {
-      below = λ i h. omega (arith, (whole.inside k).each (get_or (leads code k) i 0) (get_d_in (leads code k) i 0 h), took.same.met_long, nodes);
+      list_fits = omega (arith, fits, took.same_end, took.same.queue_long);
+      below_sets = λ i h. omega (arith, lead_inside i h, took.same.sets_long, sets);
+      below = λ i h. omega (arith, lead_inside i h, took.same.met_long, nodes);
       room = λ i h. room i h;
     }
 
     -- and then the state is the definition's
-    pub runs_turn : (w₂ : Worklist) → HandedOn w₁ (leads code k) (given code w₁.sets.now k) w₂ → Runs code locals (state w₂)
+    pub runs_turn : (w₂ : Worklist) → HandedOn w₁ (leads code k) (given code w₁.sets.now k) w₂ → Runs code locals (state_at n w₂)
     unfolding step
     runs_turn w₂ h =
-        subst (Runs code locals) (sym (h.state_is ∙ ap₂ (λ (m : ℕ) (s : State masks). over (receive m) s (leads code k)) (ap (out k) (sym own_is)) took.state_is))
-        (runs_step (state w) k (state w₁).list took.first r)
+        subst (Runs code locals)
+        (sym (handed_at w₁ (leads code k) (given code w₁.sets.now k) w₂ n leads_inside h
+        ∙ ap₂ (λ (m : ℕ) (s : State masks). over (receive m) s (leads code k)) (ap (out k) (sym own_is)) popped_is))
+        (runs_step (state_at n w) k (state w₁).list took.first r)
 
 -- ---- the loop
 
 module _ (t : Tables) (w₀ : Worklist) where
   -- for whatever code the tables are, the list has a state of its run
   pub record Held (w : Worklist) : Type 0 where
-    pub runs : (code : List Bytecode) (locals : ℕ) → Begun code locals t w₀ → Runs code locals (state w)
+    pub runs : (code : List Bytecode) (locals : ℕ) → Begun code locals t w₀ → Runs code locals (state_at (2 + length (keyed code)) w)
+    pub list_fits : ListFits w
     pub same : SameSlices w₀ w
 
   module _ (can : CanRun t w₀) where
     pub held_begin : Held w₀
-    held_begin = record { runs = λ code locals b. subst (Runs code locals) (sym b.state_is) (runs_begin code locals b.analyzable); same = same_slices w₀ }
+    held_begin = record { runs = λ code locals b. subst (Runs code locals) (sym b.state_is) (runs_begin code locals b.analyzable); list_fits = can.begun.list_fits; same = same_slices w₀ }
 
     module _ (w : Worklist) (h : Held w) (k : ℕ) (w₁ : Worklist) (took : Taken w k w₁) where
       nodes_kept : {n : ℕ} → length w₀.met.now ≡ n → length w.met.now ≡ n
       nodes_kept e = h.same.met_long ∙ e
 
+      sets_kept : {n : ℕ} → length w₀.met.now ≡ n → length w₀.met.now ≤ length w₀.sets.now → n ≤ length w.sets.now
+      sets_kept e l = omega (arith, e, l, h.same.sets_long)
+
       held_asks : CanStep t w₁ k
       held_asks =
           let a = can.begun.analyzable in
           let nodes : length w.met.now ≡ 2 + length (keyed can.code) = nodes_kept can.begun.nodes in
+          let sets : 2 + length (keyed can.code) ≤ length w.sets.now = sets_kept can.begun.nodes can.begun.sets_fit in
           let long : length w.queue.now ≡ max_taken = h.same.queue_long ∙ can.begun.list_long in
           let r = h.runs can.code can.locals can.begun in
           record {
@@ -183,9 +212,10 @@ module _ (t : Tables) (w₀ : Worklist) where
             sound = a.sound;
             tables = can.begun.tables;
             nodes = took.same.met_long ∙ nodes;
+            sets_fit = omega (arith, sets, took.same.sets_long, took.same.met_long, nodes);
             few = omega (arith, keys_few can.code a.sound, a.few, took.same.met_long, nodes);
-            inside = omega (arith, key_inside can.code can.locals a w w₁ k took nodes long r, took.same.met_long, nodes);
-            hands = runs_hands can.code can.locals a w w₁ k took nodes long r;
+            inside = omega (arith, key_inside can.code can.locals a w w₁ k took nodes sets long h.list_fits r, took.same.met_long, nodes);
+            hands = runs_hands can.code can.locals a w w₁ k took nodes sets long h.list_fits r;
           }
 
       -- what `out_of` requires
@@ -212,28 +242,36 @@ module _ (t : Tables) (w₀ : Worklist) where
           held_head = handed.same_head ∙ took.next_head
 
           pub held_more : Held w₂
-          held_more = record { runs = more; same = same_then h.same (same_then took.same handed.same) }
+          held_more = record { runs = more; list_fits = handed.list_fits; same = same_then h.same (same_then took.same handed.same) }
             where
-              more : (code : List Bytecode) (locals : ℕ) → Begun code locals t w₀ → Runs code locals (state w₂)
+              more : (code : List Bytecode) (locals : ℕ) → Begun code locals t w₀ → Runs code locals (state_at (2 + length (keyed code)) w₂)
               more code locals b =
                   let nodes : length w.met.now ≡ 2 + length (keyed code) = nodes_kept b.nodes in
-                  runs_turn code locals b.analyzable w w₁ k took nodes (h.same.queue_long ∙ b.list_long) (h.runs code locals b) w₂
+                  runs_turn code locals b.analyzable w w₁ k took nodes (sets_kept b.nodes b.sets_fit) (h.same.queue_long ∙ b.list_long) h.list_fits (h.runs code locals b) w₂
                   (stepped code b.analyzable.sound b.tables (took.same.met_long ∙ nodes))
 
     -- the end: none waits
     pub held_done : (w w₁ : Worklist) → Held w → Ended w w₁ → (code : List Bytecode) (locals : ℕ) → Begun code locals t w₀ → Solved code locals w₁.cursor.head w₁.sets.now
     unfolding state_of
     held_done w w₁ h e code locals b =
-        let is = e.state_is ∙ sym (runs_done code locals b.analyzable (state w) e.none (h.runs code locals b)) in
-        record { taken = ap (λ (s : State masks). s.taken) is; final = take_all (2 + length (keyed code)) (map mask w₁.sets.now) (omega (arith, length-map w₁.sets.now mask, w₁.nodes, e.same.met_long, h.same.met_long, b.nodes)) ∙ ap (λ (s : State masks). s.sets) is }
+        let n = 2 + length (keyed code) in
+        let is = ap (front n) e.state_is ∙ sym (runs_done code locals b.analyzable (state_at n w) e.none (h.runs code locals b)) in
+        record { taken = ap (λ (s : State masks). s.taken) is; final = ap (λ (s : State masks). s.sets) is }
 
 -- ---- the beginning: all is blank, and key 1 is met and waits
 
+-- the front of a list that is blank
+part_blank : {A : Type 0} (xs : List A) (blank : A) (m k : ℕ) → ((j : ℕ) → get_or xs j blank ≡ blank) → get_or (take m xs) k blank ≡ blank
+part_blank xs blank m k h =
+    by_lt k m (λ l. get_or-take m xs k blank l ∙ h k) (λ l. get_or-eq_default (take m xs) blank {n = k} (omega (arith, length-take m xs)))
+
 module _ (code : List Bytecode) (locals : ℕ) (t : Tables) (sets : List LiveVarState) (met : List Bool) (q : List ℕ) (input : RunInput code locals t sets met q) where
-  no_sets : map mask sets ≡ replicate (2 + length (keyed code)) 0
+  no_sets : take (2 + length (keyed code)) (map mask sets) ≡ replicate (2 + length (keyed code)) 0
   no_sets =
-      ext_get_or 0 (map mask sets) (replicate (2 + length (keyed code)) 0) (omega (arith, length-map sets mask, input.sets_long, input.nodes, length-replicate {A = ℕ} (2 + length (keyed code)) 0))
-      (λ i h. input.sets_blank i ∙ sym (copies_at (2 + length (keyed code)) i 0))
+      let n = 2 + length (keyed code) in
+      let long : length (take n (map mask sets)) ≡ n = length-take-le n (map mask sets) (omega (arith, length-map sets mask, input.sets_fit, input.nodes)) in
+      ext_get_or 0 (take n (map mask sets)) (replicate n 0) (long ∙ sym (length-replicate {A = ℕ} n 0))
+      (λ i h. part_blank (map mask sets) 0 n i input.sets_blank ∙ sym (copies_at n i 0))
 
   none_met : map flag met ≡ replicate (2 + length (keyed code)) 0
   none_met =
@@ -246,11 +284,13 @@ module _ (code : List Bytecode) (locals : ℕ) (t : Tables) (sets : List LiveVar
     analyzable = input.analyzable;
     tables = input.tables;
     nodes = ap length em ∙ length-set met 1 true ∙ input.nodes;
+    sets_fit = omega (arith, ap length em, length-set met 1 true, ap length es, input.sets_fit);
     list_long = long ∙ input.list_long;
+    list_fits = put.within;
     state_is = here;
   }
     where
-      here : state w ≡ begin (2 + length (keyed code)) 1
+      here : state_at (2 + length (keyed code)) w ≡ begin (2 + length (keyed code)) 1
       here = unfold state_of begin in
           let list : waiting w.queue.now w.cursor ≡ 1 ∷ [] = put.queued ∙ ap (λ (l : List ℕ). l ++ (1 ∷ [])) (list_none q none empty) in
           let start : w.cursor.head ≡ 0 = put.same_head ∙ first in
@@ -258,28 +298,35 @@ module _ (code : List Bytecode) (locals : ℕ) (t : Tables) (sets : List LiveVar
 
 -- ---- the arrays that solve makes
 
--- the front of a list that is blank
-part_blank : {A : Type 0} (xs : List A) (blank : A) (m k : ℕ) → ((j : ℕ) → get_or xs j blank ≡ blank) → get_or (take m xs) k blank ≡ blank
-part_blank xs blank m k h =
-    by_lt k m (λ l. get_or-take m xs k blank l ∙ h k) (λ l. get_or-eq_default (take m xs) blank {n = k} (omega (arith, length-take m xs)))
-
 module _ {code : List Bytecode} {locals : ℕ} {t : Tables} {m : ℕ} {sets : List LiveVarState} (input : SolveInput code locals t m sets) where
   pub few_nodes : m ≤ max_instructions
   few_nodes = omega (arith, input.count, keys_few code input.analyzable.sound, input.analyzable.few)
 
-  pub start_input : RunInput code locals t (take (m + 2) sets) (take (m + 2) (replicate (max_instructions + 2) false)) (replicate max_taken 0)
-  start_input = record {
+  -- with sets that are blank, and enough of them
+  start_with : (part : List LiveVarState) → m + 2 ≤ length part → ((k : ℕ) → get_or (map mask part) k 0 ≡ 0)
+      → RunInput code locals t part (take (m + 2) (replicate (max_instructions + 2) false)) (replicate max_taken 0)
+  start_with part fit blank = record {
     analyzable = input.analyzable;
     tables = input.tables;
     nodes = long ∙ (omega (arith, input.count));
-    sets_long = length-take-le (m + 2) sets input.sets_fit ∙ sym long;
+    sets_fit = omega (arith, long, fit);
     list_long = length-replicate {A = ℕ} max_taken 0;
-    sets_blank = λ k. ap (λ (l : List ℕ). get_or l k 0) (sym (take-map mask (m + 2) sets)) ∙ part_blank (map mask sets) 0 (m + 2) k input.sets_blank;
+    sets_blank = blank;
     met_blank = λ k. part_blank (replicate (max_instructions + 2) false) false (m + 2) k (λ j. copies_at (max_instructions + 2) j false);
   }
     where
       long : length (take (m + 2) (replicate {A = Bool} (max_instructions + 2) false)) ≡ m + 2
       long = length-take-le (m + 2) (replicate (max_instructions + 2) false) (omega (arith, few_nodes, length-replicate {A = Bool} (max_instructions + 2) false))
+
+  -- all the sets will do
+  pub start_whole : RunInput code locals t sets (take (m + 2) (replicate (max_instructions + 2) false)) (replicate max_taken 0)
+  start_whole = start_with sets input.sets_fit input.sets_blank
+
+  -- and so will those of the keys
+  pub start_input : RunInput code locals t (take (m + 2) sets) (take (m + 2) (replicate (max_instructions + 2) false)) (replicate max_taken 0)
+  start_input =
+      start_with (take (m + 2) sets) (omega (arith, length-take-le (m + 2) sets input.sets_fit))
+      (λ k. ap (λ (l : List ℕ). get_or l k 0) (sym (take-map mask (m + 2) sets)) ∙ part_blank (map mask sets) 0 (m + 2) k input.sets_blank)
 
   -- the sets past those of the keys are as they were
   pub solved_front : (r : ℕ) (new rest : List LiveVarState) → length new ≡ length (take (m + 2) sets) → Solved code locals r new → Solved code locals r (new ++ rest)

@@ -1,13 +1,13 @@
 // The live rule of each instruction, decoded once a call into a slice. Assumes nothing.
-ghost use Rattle.std.specs.Prelude.{◌≡◌, cond, ℕ, ◌^◌, ◌<◌, ◌≤◌, eqb, length, take};
+ghost use Rattle.std.specs.Prelude.{◌≡◌, cond, true, ℕ, ◌^◌, ◌<◌, ◌≤◌, get_or, length};
 ghost use Rattle.base.specs.Sizes.{max_locals};
 ghost use Rattle.dataflow_domains.specs.Mask.{set_of};
+ghost use Rattle.stackless_bytecode.specs.Kinds.{is_flagged};
 ghost use Rattle.dataflow_domains.specs.Sets.{mask};
-ghost use Rattle.sheet.specs.Code.{code_in};
+ghost use Rattle.sheet.specs.Layout.{code_of};
 ghost use Rattle.livevar_analysis.specs.Live.{execute};
-ghost use Rattle.livevar_analysis.specs.Rules.{rule_by, ListedLocals, InRange, Ruled};
+ghost use Rattle.livevar_analysis.specs.Rules.{rule_by, InRange, Ruled};
 
-use base::LIST_PLACES;
 use dataflow_domains::LiveVarState;
 use sheet::accepted::AcceptedSheet;
 use stackless_bytecode::Bytecode;
@@ -20,27 +20,27 @@ pub struct Rule {
     pub assign: bool,
 }
 
-// The set of the first n places of a list.
-pub fn set_of(list: [u8; LIST_PLACES], n: u8) -> LiveVarState
-    requires { ListedLocals n list }
-    ensures { mask result ≡ set_of (take n list) }
+// The set of the locals of a list.
+pub fn set_of(list: &[u8]) -> LiveVarState
+    requires { (i : ℕ) → i < length list.now → get_or list.now i 0 < max_locals }
+    ensures { mask result ≡ set_of list.now }
 {
     let mut set = LiveVarState::empty();
-    for &local in &list[..usize::from(n)] {
+    for &local in list {
         set = set.insert(local);
     }
     set
 }
 
 // The set of the abort local, where there is one.
-fn gone(flag: u8, abort: u8) -> LiveVarState
-    requires { flag ≡ 1 → abort < max_locals }
-    ensures { mask result ≡ cond (eqb flag 1) (2 ^ abort) 0 }
+fn gone(r: Bytecode) -> LiveVarState
+    requires { is_flagged r ≡ true → r.abort < max_locals }
+    ensures { mask result ≡ cond (is_flagged r) (2 ^ r.abort) 0 }
 {
-    if flag == 1 {
-        return LiveVarState::single(abort);
+    match r.abort_local() {
+        Some(local) => LiveVarState::single(local),
+        None => LiveVarState::empty(),
     }
-    LiveVarState::empty()
 }
 
 // A Call: destinations out, sources in, and then the abort local out where it is flagged.
@@ -49,9 +49,9 @@ fn call_rule(r: Bytecode) -> Rule
     requires call { r.kind ≡ 1 }
     ensures { (m : ℕ) → rule_by result m ≡ execute r m }
 {
-    let out = set_of(r.dsts, r.ndst);
-    let into = set_of(r.srcs, r.nsrc);
-    let last = gone(r.flag, r.abort);
+    let out = set_of(r.destinations());
+    let into = set_of(r.sources());
+    let last = gone(r);
     Rule {
         kills: out.union(last),
         gens: into.without(last),
@@ -92,7 +92,7 @@ pub fn rule_of(r: Bytecode) -> Rule
         // Assign
         0 => Rule {
             kills: LiveVarState::single(r.dsts[0]),
-            gens: set_of(r.srcs, r.nsrc),
+            gens: set_of(r.sources()),
             assign: true,
         },
         // Call
@@ -100,7 +100,7 @@ pub fn rule_of(r: Bytecode) -> Rule
         // Ret, Branch, Abort, Prop
         2 | 4 | 7 | 11 => Rule {
             kills: LiveVarState::empty(),
-            gens: set_of(r.srcs, r.nsrc),
+            gens: set_of(r.sources()),
             assign: false,
         },
         // Load
@@ -121,7 +121,7 @@ pub fn rule_of(r: Bytecode) -> Rule
 // The rules of a sheet's instructions.
 pub fn decode_rules(sheet: AcceptedSheet<'_>, rules: &mut [Rule])
     requires { sheet.count ≤ length rules.old }
-    ensures { Ruled (code_in sheet.entry) rules.new }
+    ensures { Ruled (code_of sheet.entry.bytes.now) rules.new }
 {
     for k in 0..sheet.count {
         rules[k] = rule_of(sheet.instruction(k));

@@ -29,7 +29,7 @@ fn hand_on(list: &mut Worklist<'_>, part: &[u16], m: LiveVarState)
     }
 }
 
-// All blocks, by ascending key, each receive m.
+// All blocks, by ascending key, each receive m. They are no part of `edges`; one function over any list of nodes would ask for an iterator's clauses, and save one line.
 fn hand_all(list: &mut Worklist<'_>, m: LiveVarState)
     requires hands { CanHand list.old (tab (length list.old.met.now - 2) 2 (λ b. b)) (mask m) }
     requires few { length list.old.met.now ≤ max_number + 1 }
@@ -74,6 +74,7 @@ fn hand_key(tables: &Tables<'_>, list: &mut Worklist<'_>, k: u16, m: LiveVarStat
 fn run(tables: &Tables<'_>, list: &mut Worklist<'_>)
     requires { CanRun tables.now list.old }
     ensures same { SameSlices list.old list.new }
+    ensures fits { list.new.cursor.head + list.new.cursor.len ≤ length list.new.queue.now }
     ensures solved { (code : List Bytecode) (locals : ℕ) → Begun code locals tables.now list.old → Solved code locals list.new.cursor.head list.new.sets.now }
 {
     while let Some(k) = list.take() {

@@ -11,28 +11,21 @@ use base::{PAIR_BYTES, SET_BYTES};
 use dataflow_domains::LiveVarState;
 use livevar_analysis::rules::Rule;
 
-// Whether instruction k of n is the last of its block: the next one has another key.
-fn ends(keys: &[u16], n: usize, k: usize) -> bool
-    requires inside { k < n }
-    requires keys { n ≤ length keys.now }
-    ensures { result ≡ is_end keys.now n k }
+// Whether instruction k is the last of its block: the next one has another key.
+fn ends(keys: &[u16], k: usize) -> bool
+    requires { k < length keys.now }
+    ensures { result ≡ is_end keys.now (length keys.now) k }
 {
-    k + 1 == n || keys[k + 1] != keys[k]
+    k + 1 == keys.len() || keys[k + 1] != keys[k]
 }
 
-// The set after instruction k of n: at the end of a block that of the block's key, else m, the set before the next instruction.
-fn after_of(
-    keys: &[u16],
-    sets: &[LiveVarState],
-    n: usize,
-    k: usize,
-    m: LiveVarState,
-) -> LiveVarState
-    requires sets { KeySets n keys.now sets.now }
-    requires inside { k < n }
-    ensures { mask result ≡ after_by keys.now sets.now n k (mask m) }
+// The set after instruction k: at the end of a block that of the block's key, else m, the set before the next instruction.
+fn after_of(keys: &[u16], sets: &[LiveVarState], k: usize, m: LiveVarState) -> LiveVarState
+    requires sets { KeySets (length keys.now) keys.now sets.now }
+    requires inside { k < length keys.now }
+    ensures { mask result ≡ after_by keys.now sets.now (length keys.now) k (mask m) }
 {
-    if ends(keys, n, k) {
+    if ends(keys, k) {
         return sets[usize::from(keys[k])];
     }
     m
@@ -47,16 +40,16 @@ fn put_info(before: LiveVarState, after: LiveVarState, out: &mut [u8])
     after.store_bytes(&mut out[SET_BYTES..PAIR_BYTES]);
 }
 
-// The sets of all n instructions: their rules, the key of each offset, and in `sets` the set after each block, by key.
-pub fn write_info(rules: &[Rule], keys: &[u16], n: usize, sets: &[LiveVarState], out: &mut [u8])
-    requires rules { n ≤ length rules.now }
-    requires sets { KeySets n keys.now sets.now }
-    requires room { pair_bytes * n ≤ length out.old }
-    ensures { (code : List Bytecode) (ms : List ℕ) → n ≡ length code → Ruled code rules.now → Blocked code ms keys.now sets.now → out.new ≡ live_bytes (infos_by code ms) ++ drop (pair_bytes * n) out.old }
+// The sets of all instructions: their rules, the key of each, and in `sets` the set after each block, by key. The parts are lent by index: of what is written through chunks_exact_mut a proof knows the length alone.
+pub fn write_info(rules: &[Rule], keys: &[u16], sets: &[LiveVarState], out: &mut [u8])
+    requires rules { length keys.now ≤ length rules.now }
+    requires sets { KeySets (length keys.now) keys.now sets.now }
+    requires room { pair_bytes * length keys.now ≤ length out.old }
+    ensures { (code : List Bytecode) (ms : List ℕ) → length keys.now ≡ length code → Ruled code rules.now → Blocked code ms keys.now sets.now → out.new ≡ live_bytes (infos_by code ms) ++ drop (pair_bytes * length keys.now) out.old }
 {
     let mut m = LiveVarState::empty();
-    for k in (0..n).rev() {
-        let after = after_of(keys, sets, n, k, m);
+    for k in (0..keys.len()).rev() {
+        let after = after_of(keys, sets, k, m);
         m = rules[k].apply(after);
         let at = PAIR_BYTES * k;
         put_info(m, after, &mut out[at..at + PAIR_BYTES]);

@@ -21,3 +21,4 @@ pub mod PlannedLaws
 pub mod NewCodeLaws
 pub mod RewriteWorkLaws
 pub mod RewriteCallLaws
+pub mod CaseLaws

@@ -59,7 +59,8 @@ module _ {s targets info : List ℕ} {n : ℕ} (h : Ready s targets info n) wher
     is_branch_lem : (at (code_of s) (e / 2)).kind ≡ Branch
     is_branch_lem = ap (λ (x : Bytecode). x.kind) (sym q) ∙ b
 
-    target_is : get_or targets e 0 ≡ label_offset (code_of s) (target_of (code_of s) e)
+    -- it is the offset of its label
+    pub target_is : get_or targets e 0 ≡ label_offset (code_of s) (target_of (code_of s) e)
     target_is =
         sym (ap offset_of (h.resolved.each e (omega (arith, size h.known)) (subst (λ (z : ℕ). z < no_label) (sym (target_slot (code_of s) e is_branch_lem)) (target_low (code_of s) e (omega (arith, ap (λ (z : Bytecode). z.one) q)) (omega (arith, ap (λ (z : Bytecode). z.two) q))))))
         ∙ ap (label_offset (code_of s)) (target_slot (code_of s) e is_branch_lem)

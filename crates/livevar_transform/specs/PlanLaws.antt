@@ -1,6 +1,6 @@
 -- What becomes of an offset: the sets that are read, what is dropped and what is merged. Assumes nothing.
-use Rattle.std.specs.Prelude.{◌≡◌, Bool, true, false, ◌&&◌, List, [], ◌∷◌, get_or, length, take, drop, refl, cond, not, ◌||◌, ℕ, zero, suc, ◌+◌, ◌*◌, ◌≤◌, ◌<◌, eqb}
-use Rattle.std.proofs.Common.{sym, ap, ap₂, ◌∙◌, subst, ⊎_elim, zero-add, suc-add, add-one, arith, eqb-true, eq-eqb, true≢false, take-take, drop-drop}
+use Rattle.std.specs.Prelude.{◌≡◌, ◌⊎◌, Bool, true, false, ◌&&◌, List, [], ◌∷◌, get_or, length, take, drop, refl, cond, not, ◌||◌, ℕ, zero, suc, ◌+◌, ◌*◌, ◌≤◌, ◌<◌, eqb}
+use Rattle.std.proofs.Common.{sym, ap, ap₂, ◌∙◌, subst, inl, inr, ⊎_elim, zero-add, suc-add, add-one, arith, eqb-true, eq-eqb, true≢false, take-take, drop-drop}
 use Rattle.std.proofs.Math.Seq.{take-nil}
 use Rattle.base.specs.Sizes.{set_bytes, pair_bytes, max_locals, max_instructions, block_bytes}
 use Rattle.base.specs.Bytes.{number, part}
@@ -9,7 +9,6 @@ use Rattle.dataflow_domains.specs.Mask.{holds}
 use Rattle.stackless_bytecode.specs.declared.Bytecode.{Bytecode}
 use Rattle.stackless_bytecode.specs.Kinds.{Assign, Call, Load, at}
 use Rattle.sheet.specs.Layout.{code_of}
-use Rattle.sheet.specs.Accepted.{CheckedSheet}
 use Rattle.sheet.specs.CheckLaws.{code_length}
 use Rattle.sheet.specs.ValidLaws.{accepted_valid}
 use Rattle.livevar_analysis.specs.Analysis.{LiveVarInfo, no_info, info_in, infos_of}
@@ -21,7 +20,7 @@ use denote.Enum.Bare.{sameb}
 use Rattle.livevar_transform.specs.contracts.plan.Fate.{the_type}
 use Rattle.livevar_transform.specs.declared.plan.Fate.{Fate}
 use Rattle.livevar_transform.specs.declared.plan.Fate.TheVariants.{Kept, Dropped, Merged}
-use Rattle.livevar_transform.specs.Plan.{Known, Ready, sides_at, is_behind, fate_of, goes, merges, Planned, MergedInside}
+use Rattle.livevar_transform.specs.Plan.{Known, sides_at, is_behind, fate_of, goes, merges, Planned, MergedInside}
 
 -- ---- the sets of an instruction
 
@@ -46,7 +45,11 @@ pub after_part : (info : List ℕ) (a : ℕ) → number (part info (a + set_byte
 unfolding info_in
 after_part info a = ap number (ap (take set_bytes) (sym (drop-drop set_bytes a info)) ∙ sym (drop_take set_bytes set_bytes (drop a info)))
 
--- ---- an accepted sheet of n instructions, and the sets of each
+-- ---- an instruction in range, and the sets of an accepted sheet of n instructions
+
+-- the destination of an Assign or a Load is a local
+pub dst_low : (r : Bytecode) → InRange r → (r.kind ≡ Assign) ⊎ (r.kind ≡ Load) → get_or r.dsts 0 0 < max_locals
+dst_low r i q = i.dsts.each 0 (⊎_elim (λ z. i.assign z) (λ z. i.load z) q)
 
 module _ {s info : List ℕ} {n : ℕ} (h : Known s info n) where
   pub size : length (code_of s) ≡ n
@@ -66,17 +69,9 @@ module _ {s info : List ℕ} {n : ℕ} (h : Known s info n) where
   one_low k r l e q = (ranged k r l e).dsts.each 0 (omega arith)
 
   -- and the destination of an Assign or a Load
-  pub dst_low : (k : ℕ) (r : Bytecode) → k < n → r ≡ at (code_of s) k → eqb r.kind Assign || eqb r.kind Load ≡ true → get_or r.dsts 0 0 < max_locals
-  dst_low k r l e q =
-      let i = ranged k r l e in
-      i.dsts.each 0 (⊎_elim (λ z. i.assign (eqb-true _ _ z)) (λ z. i.load (eqb-true _ _ z)) (or-true (eqb r.kind Assign) (eqb r.kind Load) q))
-
--- what an accepted sheet and the room for its sets say
-pub known_by : {s targets info : List ℕ} {n : ℕ} → CheckedSheet s n targets → pair_bytes * n ≤ length info → Known s info n
-known_by g h = record { accepted = g.accepted; count = g.count; room = h }
-
-pub ready_by : {s targets info : List ℕ} {n : ℕ} → CheckedSheet s n targets → pair_bytes * n ≤ length info → Ready s targets info n
-ready_by g h = record { known = known_by g h; resolved = g.resolved; slots = g.slots }
+  pub dst_inside : (k : ℕ) (r : Bytecode) → k < n → r ≡ at (code_of s) k → eqb r.kind Assign || eqb r.kind Load ≡ true → get_or r.dsts 0 0 < max_locals
+  dst_inside k r l e q =
+      dst_low r (ranged k r l e) (⊎_elim (λ z. inl (eqb-true _ _ z)) (λ z. inr (eqb-true _ _ z)) (or-true (eqb r.kind Assign) (eqb r.kind Load) q))
 
 -- ---- what is dropped and what is merged
 
@@ -89,9 +84,9 @@ module _ (code : List Bytecode) (info : List ℕ) (n k : ℕ) (r : Bytecode) (he
       ∙ ap (λ (x : Bytecode). not (holds (info_at (infos_of n info) k).after (get_or x.dsts 0 0))) here
       ∙ sym (ap (λ (t : Bool). t && not (holds (info_at (infos_of n info) k).after (get_or (at code k).dsts 0 0))) (ap (λ (x : Bytecode). eqb x.kind Assign || eqb x.kind Load) (sym here) ∙ q))
 
-  pub dead_not : eqb r.kind Assign || eqb r.kind Load ≡ false → false ≡ is_dead code (infos_of n info) k
+  pub dead_none : eqb r.kind Assign || eqb r.kind Load ≡ false → false ≡ is_dead code (infos_of n info) k
   unfolding is_dead
-  dead_not q = sym (ap (λ (t : Bool). t && not (holds (info_at (infos_of n info) k).after (get_or (at code k).dsts 0 0))) (ap (λ (x : Bytecode). eqb x.kind Assign || eqb x.kind Load) (sym here) ∙ q))
+  dead_none q = sym (ap (λ (t : Bool). t && not (holds (info_at (infos_of n info) k).after (get_or (at code k).dsts 0 0))) (ap (λ (x : Bytecode). eqb x.kind Assign || eqb x.kind Load) (sym here) ∙ q))
 
   merged_none : (MergedCall code (infos_of n info) k → ⊥) → false ≡ is_merged code (infos_of n info) k
   merged_none f =
@@ -200,6 +195,13 @@ pub same_dropped : (f : Fate) → sameb the_type f Dropped ≡ goes f
 same_dropped Kept = refl
 same_dropped Dropped = refl
 same_dropped Merged = refl
+
+-- the same, where the test is known
+pub merged_as : (f : Fate) {b t : Bool} → b ≡ sameb the_type f Merged → b ≡ t → merges f ≡ t
+merged_as f e q = sym (e ∙ same_merged f) ∙ q
+
+pub dropped_as : (f : Fate) {b t : Bool} → b ≡ sameb the_type f Dropped → b ≡ t → goes f ≡ t
+dropped_as f e q = sym (e ∙ same_dropped f) ∙ q
 
 pub merged_fate : (f : Fate) → merges f ≡ true → f ≡ Merged
 merged_fate Kept e = absurd (true≢false (sym e))

@@ -20,7 +20,7 @@ pub fn with_dsts(r: Bytecode, dsts: [u8; LIST_PLACES]) -> Bytecode
     Bytecode { dsts, ..r }
 }
 
-// A new Label or Jump.
+// A new Label or Jump; `kind` is any number, as the record has one.
 #[tactic(auto, unfolding(sheet::specs::Layout::padded))]
 pub fn mark(kind: u8, attr: u16, one: u16) -> Bytecode
     ensures { result ≡ made kind 0 attr one [] }

@@ -1,7 +1,7 @@
 // The plan of a rewriting, filled in one pass: what becomes of each offset and what each edge loses; and the new code counted by it. Assumes nothing.
 ghost use Rattle.std.specs.Prelude.{◌≡◌, map, ◌*◌, ◌+◌, ◌/◌, ◌<◌, ◌≤◌, max, get_or, length};
 ghost use Rattle.std.specs.Int.Bits.{bit_and};
-ghost use Rattle.base.specs.Sizes.{set_bytes, pair_bytes, max_locals, max_number};
+ghost use Rattle.base.specs.Sizes.{set_bytes, max_locals, max_instructions};
 ghost use Rattle.base.specs.Bytes.{number, part};
 ghost use Rattle.dataflow_domains.specs.Sets.{mask};
 ghost use Rattle.dataflow_domains.specs.Members.{members};
@@ -9,11 +9,11 @@ ghost use Rattle.stackless_bytecode.specs.Kinds.{at, label_of};
 ghost use Rattle.sheet.specs.Layout.{code_of};
 ghost use Rattle.livevar_analysis.specs.Analysis.{infos_of};
 ghost use Rattle.livevar_transform.specs.Rewrite.{is_dead, is_merged, highest, next_free_label, next_free_attr};
-ghost use Rattle.livevar_transform.specs.Plan.{sides_at, is_behind, fate_of, merges, lost_by, MergedInside, Planned, past, lost_at, NextBelow, next_room, LowNext, Counted};
+ghost use Rattle.livevar_transform.specs.Plan.{Ready, sides_at, is_behind, fate_of, lost_by, MergedInside, Planned, past, lost_at, NextBelow, next_room, LowNext, Counted};
 
-use base::{MAX_INSTRUCTIONS, PAIR_BYTES, SET_BYTES, SLOTS};
+use base::{PAIR_BYTES, SET_BYTES};
 use dataflow_domains::LiveVarState;
-use sheet::accepted::AcceptedSheet;
+use sheet::accepted::{AcceptedSheet, ResolvedSheet};
 use stackless_bytecode::{Bytecode, Kind};
 
 // What becomes of an offset.
@@ -42,26 +42,30 @@ pub struct Counts {
 // An accepted sheet, and the bytes of the sets before and after each instruction.
 #[derive(Clone, Copy)]
 pub struct LiveSheet<'a> {
-    pub sheet: AcceptedSheet<'a>,
+    pub sheet: ResolvedSheet<'a>,
     pub info: &'a [u8],
-    pub ghost room: { pair_bytes * sheet.count ≤ length info.now },
+    pub ghost ready: { Ready sheet.bytes.now sheet.targets.now info.now sheet.count },
 }
 
-// The arrays in which a plan is worked out.
-#[derive(Drop)]
-pub struct PlanArrays {
-    // What becomes of each offset.
-    pub fates: [Fate; MAX_INSTRUCTIONS],
-    // What each edge loses: the then edge of offset k at 2k, its else edge behind it.
-    pub lost: [LiveVarState; SLOTS],
+// The instruction r, at its offset k.
+#[derive(Clone, Copy)]
+struct Here<'a> {
+    live: LiveSheet<'a>,
+    k: usize,
+    r: Bytecode,
+    ghost inside: { k < live.sheet.count },
+    ghost here: { r ≡ at (code_of live.sheet.bytes.now) k },
 }
 
-// A plan of an accepted sheet.
+// A plan of an accepted sheet: what becomes of each offset, and what each edge loses, the then edge of offset k at 2k, its else edge behind it.
 #[derive(Clone, Copy)]
 pub struct Plan<'a> {
     pub sheet: AcceptedSheet<'a>,
-    pub arrays: &'a PlanArrays,
-    pub ghost merged: { MergedInside arrays.now.fates sheet.count },
+    pub fates: &'a [Fate],
+    pub lost: &'a [LiveVarState],
+    pub ghost offsets: { sheet.count ≤ length fates.now },
+    pub ghost edges: { 2 * sheet.count ≤ length lost.now },
+    pub ghost merged: { MergedInside fates.now sheet.count },
 }
 
 // The set whose bytes start at `at`.
@@ -95,100 +99,101 @@ impl<'a> LiveSheet<'a> {
     {
         set_in(self.info, PAIR_BYTES * k + SET_BYTES)
     }
+}
 
-    // Whether r at offset k is a Load or an Assign whose destination is not in after.
-    fn is_dead(self, k: usize, r: Bytecode) -> bool
-        requires inside { k < self.sheet.count }
-        requires here { r ≡ at (code_of self.sheet.bytes.now) k }
-        ensures { result ≡ is_dead (code_of self.entry.sheet.bytes.now) (infos_of self.entry.sheet.count self.entry.info.now) k }
+impl<'a> Here<'a> {
+    // Whether it is a Load or an Assign whose destination is not in after.
+    fn is_dead(self) -> bool
+        ensures { result ≡ is_dead (code_of self.entry.live.sheet.bytes.now) (infos_of self.entry.live.sheet.count self.entry.live.info.now) self.entry.k }
     {
-        let sets_one = r.is(Kind::Assign) | r.is(Kind::Load);
-        sets_one && !self.after(k).has(r.dsts[0])
+        let sets_one = self.r.is(Kind::Assign) | self.r.is(Kind::Load);
+        sets_one && !self.live.after(self.k).has(self.r.dsts[0])
     }
 
-    // Whether r at offset k is a Call with one destination, directly before an Assign from it, and that destination is not in the Assign's after.
-    fn is_merged(self, k: usize, r: Bytecode) -> bool
-        requires inside { k < self.sheet.count }
-        requires here { r ≡ at (code_of self.sheet.bytes.now) k }
-        ensures { result ≡ is_merged (code_of self.entry.sheet.bytes.now) (infos_of self.entry.sheet.count self.entry.info.now) k }
+    // Whether it is a Call with one destination, directly before an Assign from it, and that destination is not in the Assign's after.
+    fn is_merged(self) -> bool
+        ensures { result ≡ is_merged (code_of self.entry.live.sheet.bytes.now) (infos_of self.entry.live.sheet.count self.entry.live.info.now) self.entry.k }
     {
-        if !r.is(Kind::Call) {
+        if !self.r.is(Kind::Call) {
             return false;
         }
-        if r.ndst != 1 {
+        if self.r.ndst != 1 {
             return false;
         }
-        if self.sheet.count <= k + 1 {
+        if self.live.sheet.count <= self.k + 1 {
             return false;
         }
-        let a = self.sheet.instruction(k + 1);
+        let a = self.live.sheet.instruction(self.k + 1);
         if !a.is(Kind::Assign) {
             return false;
         }
-        if a.srcs[0] != r.dsts[0] {
+        if a.srcs[0] != self.r.dsts[0] {
             return false;
         }
-        !self.after(k + 1).has(r.dsts[0])
+        !self.live.after(self.k + 1).has(self.r.dsts[0])
     }
 
-    // What becomes of r at offset k; `behind`: the Call before it is merged.
-    fn fate(self, k: usize, r: Bytecode, behind: bool) -> Fate
-        requires inside { k < self.sheet.count }
-        requires here { r ≡ at (code_of self.sheet.bytes.now) k }
-        requires behind { behind ≡ is_behind (code_of self.sheet.bytes.now) (infos_of self.sheet.count self.info.now) k }
-        ensures { result ≡ fate_of (code_of self.entry.sheet.bytes.now) (infos_of self.entry.sheet.count self.entry.info.now) k }
+    // What becomes of it; `behind`: the Call before it is merged.
+    fn fate(self, behind: bool) -> Fate
+        requires { behind ≡ is_behind (code_of self.live.sheet.bytes.now) (infos_of self.live.sheet.count self.live.info.now) self.k }
+        ensures { result ≡ fate_of (code_of self.entry.live.sheet.bytes.now) (infos_of self.entry.live.sheet.count self.entry.live.info.now) self.entry.k }
     {
         if behind {
             return Fate::Dropped;
         }
-        if self.is_dead(k, r) {
+        if self.is_dead() {
             return Fate::Dropped;
         }
-        if self.is_merged(k, r) {
+        if self.is_merged() {
             return Fate::Merged;
         }
         Fate::Kept
     }
 
-    // The references that edge e of r loses: in the Branch's after, and not in its target's before.
-    fn lost_on(self, refs: LiveVarState, e: usize, r: Bytecode) -> LiveVarState
-        requires inside { e < 2 * self.sheet.count }
-        requires here { r ≡ at (code_of self.sheet.bytes.now) (e / 2) }
-        ensures { mask result ≡ lost_by self.entry.sheet.targets.now self.entry.info.now (mask refs) e r }
+    // The references that its edge e loses: in the Branch's after, and not in its target's before.
+    fn lost_on(self, refs: LiveVarState, e: usize) -> LiveVarState
+        requires { e / 2 ≡ self.k }
+        ensures { mask result ≡ lost_by self.entry.live.sheet.targets.now self.entry.live.info.now (mask refs) e self.entry.r }
     {
-        if !r.is(Kind::Branch) {
+        if !self.r.is(Kind::Branch) {
             return LiveVarState::empty();
         }
-        let target = usize::from(self.sheet.targets[e]);
-        common(self.after(e / 2), refs).without(self.before(target))
-    }
-
-    // The plan, where `refs` are the references.
-    pub fn plan(self, refs: LiveVarState, arrays: &'a mut PlanArrays) -> Plan<'a>
-        ensures same { result.sheet ≡ self.entry.sheet }
-        ensures planned { Planned (code_of self.entry.sheet.bytes.now) (infos_of self.entry.sheet.count self.entry.info.now) (mask refs) result.arrays.now.fates (map mask result.arrays.now.lost) self.entry.sheet.count }
-    {
-        let mut behind = false;
-        for k in 0..self.sheet.count {
-            let r = self.sheet.instruction(k);
-            let fate = self.fate(k, r, behind);
-            arrays.fates[k] = fate;
-            arrays.lost[2 * k] = self.lost_on(refs, 2 * k, r);
-            arrays.lost[2 * k + 1] = self.lost_on(refs, 2 * k + 1, r);
-            behind = fate == Fate::Merged;
-        }
-        Plan {
-            sheet: self.sheet,
-            arrays,
-        }
+        let target = usize::from(self.live.sheet.targets[e]);
+        common(self.live.after(self.k), refs).without(self.live.before(target))
     }
 }
 
-impl PlanArrays {
-    pub fn new() -> PlanArrays {
-        PlanArrays {
-            fates: [Fate::Kept; MAX_INSTRUCTIONS],
-            lost: [LiveVarState::empty(); SLOTS],
+impl<'a> LiveSheet<'a> {
+    // The plan, where `refs` are the references.
+    pub fn plan(
+        self,
+        refs: LiveVarState,
+        fates: &'a mut [Fate],
+        lost: &'a mut [LiveVarState],
+    ) -> Plan<'a>
+        requires offsets { self.sheet.count ≤ length fates.old }
+        requires edges { 2 * self.sheet.count ≤ length lost.old }
+        ensures bytes { result.sheet.bytes.now ≡ self.entry.sheet.bytes.now }
+        ensures count { result.sheet.count ≡ self.entry.sheet.count }
+        ensures planned { Planned (code_of self.entry.sheet.bytes.now) (infos_of self.entry.sheet.count self.entry.info.now) (mask refs) result.fates.now (map mask result.lost.now) self.entry.sheet.count }
+    {
+        let mut behind = false;
+        for k in 0..self.sheet.count {
+            let here = Here {
+                live: self,
+                k,
+                r: self.sheet.instruction(k),
+            };
+            let fate = here.fate(behind);
+            fates[k] = fate;
+            lost[2 * k] = here.lost_on(refs, 2 * k);
+            lost[2 * k + 1] = here.lost_on(refs, 2 * k + 1);
+            behind = fate == Fate::Merged;
+        }
+        Plan {
+            sheet: self.sheet.accepted(),
+            fates,
+            lost,
         }
     }
 }
@@ -251,33 +256,36 @@ impl<'a> Plan<'a> {
     // The references that edge e loses.
     pub fn lost(self, e: usize) -> LiveVarState
         requires { e < 2 * self.sheet.count }
-        ensures { mask result ≡ get_or (map mask self.entry.arrays.now.lost) e 0 }
+        ensures { mask result ≡ get_or (map mask self.entry.lost.now) e 0 }
     {
-        self.arrays.lost[e]
+        self.lost[e]
     }
+}
 
-    // The numbers behind both edges of offset k.
-    pub fn past_both(self, k: usize, next: Next) -> Next
-        requires inside { k < self.sheet.count }
-        requires below { NextBelow next_room next }
-        ensures { result ≡ past (past next (lost_at (map mask self.entry.arrays.now.lost) (2 * k))) (lost_at (map mask self.entry.arrays.now.lost) (2 * k + 1)) }
-    {
-        next.past(self.lost(2 * k)).past(self.lost(2 * k + 1))
-    }
+// The numbers behind both edges of offset k.
+pub fn past_both(lost: &[LiveVarState], k: usize, next: Next) -> Next
+    requires below { NextBelow next_room next }
+    requires room { 2 * k + 2 ≤ length lost.now }
+    ensures { result ≡ past (past next (lost_at (map mask lost.now) (2 * k))) (lost_at (map mask lost.now) (2 * k + 1)) }
+{
+    next.past(lost[2 * k]).past(lost[2 * k + 1])
+}
 
-    // What the new code has, counted before it is written.
-    pub fn count(self, first: Next) -> Counts
-        requires { LowNext first }
-        ensures { Counted self.entry.arrays.now.fates (map mask self.entry.arrays.now.lost) self.entry.sheet.count first result }
-    {
-        let mut kept = 0;
-        let mut next = first;
-        for k in 0..self.sheet.count {
-            if self.arrays.fates[k] != Fate::Dropped {
-                kept += 1;
-            }
-            next = self.past_both(k, next);
+// What the new code has, counted before it is written.
+pub fn count(fates: &[Fate], lost: &[LiveVarState], n: usize, first: Next) -> Counts
+    requires few { n ≤ max_instructions }
+    requires offsets { n ≤ length fates.now }
+    requires edges { 2 * n ≤ length lost.now }
+    requires low { LowNext first }
+    ensures { Counted fates.now (map mask lost.now) n first result }
+{
+    let mut kept = 0;
+    let mut next = first;
+    for k in 0..n {
+        if fates[k] != Fate::Dropped {
+            kept += 1;
         }
-        Counts { kept, next }
+        next = past_both(lost, k, next);
     }
+    Counts { kept, next }
 }

@@ -13,7 +13,7 @@ use listing::text::put_refused;
 use listing::writer::Writer;
 use live::analysis::analyze;
 use livevar_transform::plan::LiveSheet;
-use sheet::accepted::AcceptedSheet;
+use sheet::accepted::ResolvedSheet;
 use sheet_checks::check::read;
 
 // The digits of an offset, a count, a label or an attribute id; of a payload; and of a local: two to 100 locals, three to 356.
@@ -51,12 +51,12 @@ pub const SECTION_BYTES: usize = 11 + LIVE_TEXT_BYTES;
 pub const PAGE_BYTES: usize = 28 + 2 * CODE_BYTES + FLOW_BYTES + LIVE_TEXT_BYTES;
 
 // The sections of a sheet.
-fn put_sections(sheet: AcceptedSheet<'_>, out: &mut Writer)
+fn put_sections(sheet: ResolvedSheet<'_>, out: &mut Writer)
     ensures { out.new ≡ out.old with_text sections sheet.entry.bytes.now }
 {
     let mut sets = [0u8; LIVE_BYTES];
     let taken = analyze(sheet, &mut sets);
-    put_code_section(sheet.bytes, out);
+    put_code_section(sheet.accepted(), out);
     put_flow_section(sheet, out);
     put_live_section(&sets, sheet.count, taken, out);
     put_rewritten_section(LiveSheet { sheet, info: &sets }, out);
@@ -74,6 +74,7 @@ fn put_bytes_page(s: &[u8], out: &mut Writer)
 }
 
 // The page of any bytes, as far as `out` goes; the result is the place behind it.
+// As put_livelist and livelist of the crate live_text: three lines each, over the text and the room of another crate.
 pub fn put_page(s: &[u8], out: &mut [u8]) -> usize
     ensures written { Wrote out.old 0 (page s.now) out.new result }
     ensures inside { result ≤ length out.new }

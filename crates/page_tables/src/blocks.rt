@@ -8,7 +8,7 @@ use base::ROW;
 use listing::writer::Writer;
 use pages::words::put_mark;
 
-// The line of a block's row.
+// The line of a block's row: its numbers by place, as the table lays them.
 #[tactic(auto, using(listing::specs::WriterLaws::texts), unfolding(pages::specs::Page::block_line))]
 fn put_block(row: &[u16], out: &mut Writer)
     requires { length row.now ≡ row_numbers }
@@ -29,9 +29,8 @@ pub fn put_blocks(table: &[u16], m: u32, out: &mut Writer)
     requires { row_numbers * m ≤ length table.now }
     ensures { out.new ≡ out.old with_text flow_text m table.now }
 {
-    // A range: of what chunks_exact gives, only the length is known.
-    for i in 0..m as usize {
-        put_block(&table[ROW * i..][..ROW], out);
+    for row in table.chunks_exact(ROW).take(m as usize) {
+        put_block(row, out);
     }
     out.put_number(b"blocks ", m);
     out.put(b"\n");

@@ -1,18 +1,19 @@
 -- The texts of Code, one local or one line more. Assumes nothing.
 use Rattle.std.specs.Prelude.{◌≡◌, refl, Bool, true, false, cond, List, [], ◌∷◌, ◌++◌, ℕ, ◌+◌, ◌≤◌, ◌<◌, length, codes}
 use Rattle.std.proofs.Common.{sym, ap, ◌∙◌, append-nil, zero-add, add-one, arith}
-use Rattle.base.specs.Sizes.{record_bytes, slots, block_bytes}
+use Rattle.base.specs.Sizes.{block_bytes}
 use Rattle.base.specs.Bytes.{u16_at}
-use Rattle.base.specs.Lists.{keep, gather, joins}
+use Rattle.base.specs.Lists.{keep, joins}
 use Rattle.base.specs.Refusals.{Accepted}
 use Rattle.base.specs.GrowLaws.{keep_snoc}
 use Rattle.dataflow_domains.specs.Mask.{holds}
 use Rattle.dataflow_domains.specs.Members.{members}
 use Rattle.stackless_bytecode.specs.declared.Bytecode.{Bytecode}
-use Rattle.sheet.specs.Layout.{count_of, record_start, instruction_at, code_of}
+use Rattle.stackless_bytecode.specs.Kinds.{at}
+use Rattle.sheet.specs.Layout.{count_of, instruction_at, code_of}
 use Rattle.sheet.specs.Checks.{check_sheet}
 use Rattle.sheet.specs.ValidLaws.{accepted_valid}
-use Rattle.sheet.specs.Shaped.{Shaped, code_at, record_inside}
+use Rattle.sheet.specs.Shaped.{code_at}
 use Rattle.sheet.specs.FormLaws.{accepted_shaped}
 use Rattle.livevar_analysis.specs.InputLaws.{count_of_lem}
 use Rattle.listing.specs.Words.{said}
@@ -50,25 +51,24 @@ pub lines_none : (code : List Bytecode) → code_lines code 0 ≡ []
 unfolding code_lines joins
 lines_none code = refl
 
-module _ (s : List ℕ) (k : ℕ) (accepted : check_sheet s ≡ Accepted) (inside : k < u16_at s 4) where
-  shaped : Shaped s (u16_at s 4)
-  unfolding count_of
-  shaped = accepted_shaped s (u16_at s 4) refl accepted
+-- the line of instruction k, by the code and by the sheet
+pub lines_at : (code : List Bytecode) (k : ℕ) (r : Bytecode) → r ≡ at code k → code_lines code k ++ code_line k r ≡ code_lines code (k + 1)
+unfolding code_lines joins
+lines_at code k r q =
+    ap (λ (x : Bytecode). code_lines code k ++ code_line k x) q ∙ ap (λ (n : ℕ). code_lines code n) (sym (add-one k))
 
-  -- instruction k of an accepted sheet is there, and has its line
-  pub instruction_there : (record_start k + record_bytes ≤ length s) × (k < slots)
-  instruction_there = let few = shaped.few in (record_inside shaped k inside, omega arith)
+pub lines_more : (s : List ℕ) (k : ℕ) (r : Bytecode) → check_sheet s ≡ Accepted → k < length (code_of s) → r ≡ instruction_at s k
+    → code_lines (code_of s) k ++ code_line k r ≡ code_lines (code_of s) (k + 1)
+unfolding count_of
+lines_more s k r accepted inside q =
+    let size : length (code_of s) ≡ u16_at s 4 = sym (count_of_lem s (u16_at s 4) refl) in
+    lines_at (code_of s) k r (q ∙ sym (code_at (accepted_shaped s (length (code_of s)) size accepted) k inside))
 
-  pub lines_more : (r : Bytecode) → r ≡ instruction_at s k → code_lines (code_of s) k ++ code_line k r ≡ code_lines (code_of s) (k + 1)
-  unfolding code_lines joins
-  lines_more r q =
-      ap (λ (x : Bytecode). code_lines (code_of s) k ++ code_line k x) (q ∙ sym (code_at shaped k inside)) ∙ ap (λ (n : ℕ). code_lines (code_of s) n) (sym (add-one k))
-
-pub lines_all : (s : List ℕ) (k : ℕ) → k ≡ u16_at s 4 → heading_text s ++ code_lines (code_of s) k ≡ code_text s
+pub lines_all : (s : List ℕ) (k : ℕ) → k ≡ length (code_of s) → heading_text s ++ code_lines (code_of s) k ≡ code_text s
 unfolding code_text
-lines_all s k e = ap (λ (n : ℕ). heading_text s ++ code_lines (code_of s) n) (e ∙ count_of_lem s (u16_at s 4) refl)
+lines_all s k e = ap (λ (n : ℕ). heading_text s ++ code_lines (code_of s) n) e
 
-pub ruleset line_steps = (lines_none, lines_more, lines_all)
+pub ruleset line_steps = (lines_none, lines_at, lines_all)
 
 -- the heading of an accepted sheet is there
 pub heading_there : (s : List ℕ) → check_sheet s ≡ Accepted → block_bytes ≤ length s

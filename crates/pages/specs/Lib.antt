@@ -11,5 +11,6 @@ pub mod CodeLaws
 pub mod SectionLaws
 pub mod UnnamedLaws
 pub mod PageLaws
+pub mod CaseLaws
 pub mod LineSizeLaws
 pub mod PageSizeLaws

@@ -7,7 +7,7 @@ use Rattle.std.proofs.lemmas.Bool.{leb-true}
 use mathlib.Core.List.Memᴰ
 use mathlib.Core.List.{Memᴰ}
 use Rattle.base.specs.Sizes.{list_places, max_locals, max_number, max_instructions}
-use Rattle.base.specs.Lists.{joins, keep, gather}
+use Rattle.base.specs.Lists.{joins, keep}
 use Rattle.base.specs.ListLaws.{by_test, and-true}
 use Rattle.dataflow_domains.specs.Mask.{holds}
 use Rattle.stackless_bytecode.specs.declared.Bytecode.{Bytecode}

@@ -1,5 +1,5 @@
 -- Marks at the Labels that are named, made slot by slot, and the texts of those that have none. Assumes nothing.
-use Rattle.std.specs.Prelude.{◌≡◌, ℕ, ◌*◌, ◌<◌, Bool, true, false, cond, not, ◌&&◌, eqb, get_or, set, length, take, List, [], codes}
+use Rattle.std.specs.Prelude.{◌≡◌, ℕ, ◌*◌, ◌<◌, Bool, true, false, cond, not, ◌&&◌, eqb, get_or, length, take, List, [], codes}
 use mathlib.Core.List.{Memᴰ}
 use Rattle.base.specs.Lists.{gather}
 use Rattle.stackless_bytecode.specs.declared.Bytecode.{Bytecode}

@@ -1,7 +1,7 @@
 -- The page as its functions write it: the rewritten code, the sections, and what the call replies. Assumes nothing.
 use Rattle.base.specs.declared.Refusal.TheVariants.{OutputShort}
 use Rattle.std.specs.Prelude.{◌≡◌, List, ◌++◌, ℕ, ◌≤◌, ◌<◌, refl, length, take, drop, Result, Ok, Err}
-use Rattle.std.proofs.Common.{sym, ap, ap₂, ◌∙◌, arith, length-append, take_at}
+use Rattle.std.proofs.Common.{sym, ap, ◌∙◌, arith, length-append, take_at}
 use Rattle.base.specs.Sizes.{max_bytes}
 use Rattle.base.specs.declared.Refusal.{Refusal}
 use Rattle.base.specs.Refusals.{Verdict, Accepted, Reply, Done, answer_of}

@@ -1,6 +1,6 @@
 -- The texts of blocks and live sets as the code writes them, and that they are those of what the calls leave. Assumes nothing.
 use Rattle.std.specs.Prelude.{◌≡◌, refl, List, [], ◌++◌, ℕ, zero, suc, ◌+◌, ◌-◌, ◌*◌, ◌≤◌, ◌<◌, length, take, drop, codes}
-use Rattle.std.proofs.Common.{sym, ap, ap₂, ◌∙◌, add-one, arith, length-append, length-drop, take_all}
+use Rattle.std.proofs.Common.{sym, ap, ap₂, ◌∙◌, mul_comm, add-one, arith, length-append, length-drop, take_all}
 use Rattle.std.proofs.lemmas.List.{drop-append-le, take-append-le}
 use Rattle.base.specs.Sizes.{row_numbers, max_instructions}
 use Rattle.base.specs.Lists.{joins}
@@ -31,7 +31,14 @@ blocks_more t i =
     ap (λ (r : List ℕ). block_lines i t ++ block_line (take row_numbers r)) (take_all (length t - row_numbers * i) (drop (row_numbers * i) t) (omega (arith, length-drop (row_numbers * i) t)))
     ∙ ap (λ (n : ℕ). block_lines n t) (sym (add-one i))
 
-pub ruleset block_steps = (blocks_none, blocks_more)
+-- and of the i-th of the rows
+pub blocks_row : (t : List ℕ) (i : ℕ) (row : List ℕ) → row ≡ take row_numbers (drop (i * row_numbers) t) → block_lines i t ++ block_line row ≡ block_lines (i + 1) t
+blocks_row t i row is =
+    let whole = take_all (length t - row_numbers * i) (drop (row_numbers * i) t) (omega (arith, length-drop (row_numbers * i) t)) in
+    ap (λ (r : List ℕ). block_lines i t ++ block_line r) (is ∙ ap (λ (k : ℕ). take row_numbers (drop k t)) (mul_comm i row_numbers) ∙ ap (take row_numbers) (sym whole))
+    ∙ blocks_more t i
+
+pub ruleset block_steps = (blocks_none, blocks_row)
 
 joins_same : (n : ℕ) (f g : ℕ → List ℕ) → ((i : ℕ) → i < n → f i ≡ g i) → joins n f ≡ joins n g
 unfolding joins

@@ -15,7 +15,7 @@ use Rattle.stackless_bytecode.specs.LookupLaws.{named_by, offset_is, defined}
 use Rattle.stackless_bytecode.specs.Slots.{no_label, slot_at, Resolved}
 use Rattle.stackless_bytecode.specs.SlotLaws.{LabelsBelow, slot_names}
 use Rattle.stackless_bytecode.specs.Successors.{Unique}
-use Rattle.sheet.specs.declared.accepted.AcceptedSheet.{AcceptedSheet}
+use Rattle.sheet.specs.declared.accepted.ResolvedSheet.{ResolvedSheet}
 use Rattle.sheet.specs.Code.{code_in}
 use Rattle.sheet.specs.ValidLaws.{accepted_valid}
 use Rattle.listing.specs.Words.{said}
@@ -119,7 +119,7 @@ marks_none code targets marks z = record { sound = λ o t. absurd (true≢false 
 
 -- ---- of an accepted sheet
 
-module _ (sheet : AcceptedSheet) where
+module _ (sheet : ResolvedSheet) where
   -- what is read of slot e
   module _ (e : ℕ) (h : e < 2 * sheet.count) (r : Bytecode) (read : r ≡ at (code_in sheet) (e / 2)) (low : LabelsBelow r) where
     size : e < 2 * length (code_in sheet)
@@ -157,11 +157,13 @@ module _ (sheet : AcceptedSheet) where
 
 -- ---- one instruction's text
 
-unmarked_some : (r : Bytecode) (mark : Bool) → is_unmarked r mark ≡ true → said (codes " L") r.one ≡ unmarked_text r mark
+-- a Label that has no mark
+pub unmarked_some : (r : Bytecode) (mark : Bool) → is_unmarked r mark ≡ true → said (codes " L") r.one ≡ unmarked_text r mark
 unfolding unmarked_text
 unmarked_some r mark e = rw e
 
-unmarked_none : (r : Bytecode) (mark : Bool) → is_unmarked r mark ≡ false → [] ≡ unmarked_text r mark
+-- another instruction
+pub unmarked_none : (r : Bytecode) (mark : Bool) → is_unmarked r mark ≡ false → [] ≡ unmarked_text r mark
 unfolding unmarked_text
 unmarked_none r mark e = rw e
 
@@ -203,7 +205,8 @@ all_named code k e q = sym (eq-eqb (length (unnamed_labels code)) 0 (ap length (
 
 -- what is read of instruction k
 module _ (code : List Bytecode) (marks : List Bool) (named : NamedMarks code marks) (k : ℕ) (inside : k < length code) (r : Bytecode) (read : r ≡ at code k) where
-  unnamed_more : unnamed_to code k ++ unmarked_text r (get_or marks k false) ≡ unnamed_to code (k + 1)
+  -- its text behind those of the first k
+  pub unnamed_more : unnamed_to code k ++ unmarked_text r (get_or marks k false) ≡ unnamed_to code (k + 1)
   unfolding unnamed_to
   unnamed_more =
       ap (λ (x : Bytecode). unnamed_to code k ++ unmarked_text x (get_or marks k false)) read
@@ -218,6 +221,11 @@ module _ (code : List Bytecode) (marks : List Bool) (named : NamedMarks code mar
   pub label_skip : is_unmarked r (get_or marks k false) ≡ false → unnamed_to code k ≡ unnamed_to code (k + 1)
   label_skip e = sym (append-nil (unnamed_to code k)) ∙ ap (λ (t : List ℕ). unnamed_to code k ++ t) (unmarked_none r (get_or marks k false) e) ∙ unnamed_more
 
+  -- it has no text, and the first k have none
+  pub named_more : is_unmarked r (get_or marks k false) ≡ false → unnamed_to code k ≡ [] → unnamed_to code (k + 1) ≡ []
+  named_more e q = sym (label_skip e) ∙ q
+
+  -- a Label that has no mark is unnamed
   pub some_unnamed : is_unmarked r (get_or marks k false) ≡ true → false ≡ eqb (length (unnamed_labels code)) 0
   some_unnamed e =
       sym (ne_eqb (length (unnamed_labels code)) 0 (λ q. omega (

@@ -1,7 +1,6 @@
 -- The texts of Words, one word or number more. Assumes nothing.
 use Rattle.std.specs.Prelude.{◌≡◌, refl, List, [], ◌∷◌, ◌++◌, ℕ, ◌+◌, ◌<◌, length, get_or, take}
 use Rattle.std.proofs.Common.{sym, ap, ◌∙◌, append-nil, append_assoc, add-one, take-suc}
-use Rattle.base.specs.Lists.{gather}
 use Rattle.listing.specs.Words.{said}
 use Rattle.pages.specs.Words.{listed}
 

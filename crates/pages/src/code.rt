@@ -1,10 +1,7 @@
 // A sheet's code as text: its heading, and a line for each instruction. Assumes nothing.
-ghost use Rattle.std.specs.Prelude.{◌≡◌, ◌+◌, ◌<◌, ◌≤◌, length, take};
-ghost use Rattle.base.specs.Bytes.{number, u16_at};
-ghost use Rattle.listing.specs.Words.{said};
-ghost use Rattle.base.specs.Refusals.{Accepted};
+ghost use Rattle.std.specs.Prelude.{◌≡◌, ◌<◌, ◌≤◌, length, take};
+ghost use Rattle.base.specs.Bytes.{number};
 ghost use Rattle.base.specs.Sizes.{set_bytes, block_bytes};
-ghost use Rattle.sheet.specs.Checks.{check_sheet};
 ghost use Rattle.listing.specs.Writer.{◌with_text◌};
 ghost use Rattle.pages.specs.Code.{destinations, labels, sources, aborting, does, takes, code_line, locals_in, counts, heading_text, code_text};
 
@@ -13,7 +10,8 @@ use crate::words::{put_listed, put_mark};
 use base::{LIST_PLACES, MAX_LOCALS, REFS_AT, REFS_END};
 use dataflow_domains::LiveVarState;
 use listing::writer::Writer;
-use sheet::reader::{instruction_at, u16_at};
+use sheet::accepted::AcceptedSheet;
+use sheet::reader::{locals_of, parameters_of, user_locals_of};
 use stackless_bytecode::{Bytecode, Kind};
 
 // The first n places of a list, or all that it has.
@@ -102,29 +100,21 @@ pub fn put_locals(p: &[u8], out: &mut Writer)
     ensures { out.new ≡ out.old with_text locals_in (number p.now) }
 {
     let set = LiveVarState::load_bytes(p);
-    for i in 0..MAX_LOCALS {
-        if set.has(i as u8) {
-            out.put_number(b" t", i as u32);
+    for i in 0..MAX_LOCALS as u8 {
+        if set.has(i) {
+            out.put_number(b" t", u32::from(i));
         }
     }
 }
 
-// A word, and the number in the two bytes from `at` on.
-fn put_count(word: &[u8], s: &[u8], at: usize, out: &mut Writer)
-    requires { at + 1 < length s.now }
-    ensures { out.new ≡ out.old with_text said word.now (u16_at s.now at) }
-{
-    out.put_number(word, u32::from(u16_at(s, at)));
-}
-
-#[tactic(auto, using(listing::specs::WriterLaws::texts), unfolding(crate::specs::Code::counts, sheet::specs::Layout::locals_of, sheet::specs::Layout::user_locals_of, sheet::specs::Layout::parameters_of))]
+#[tactic(auto, using(listing::specs::WriterLaws::texts), unfolding(crate::specs::Code::counts))]
 fn put_counts(s: &[u8], out: &mut Writer)
     requires { 11 < length s.now }
     ensures { out.new ≡ out.old with_text counts s.now }
 {
-    put_count(b"locals ", s, 6, out);
-    put_count(b" user ", s, 8, out);
-    put_count(b" parameters ", s, 10, out);
+    out.put_number(b"locals ", u32::from(locals_of(s)));
+    out.put_number(b" user ", u32::from(user_locals_of(s)));
+    out.put_number(b" parameters ", u32::from(parameters_of(s)));
     out.put(b" references");
 }
 
@@ -140,12 +130,11 @@ fn put_heading(s: &[u8], out: &mut Writer)
 
 // The heading, and a line for each instruction.
 #[tactic(auto, using(listing::specs::WriterLaws::texts, crate::specs::CodeLaws::line_steps, crate::specs::CodeLaws::heading_there))]
-pub fn put_code(s: &[u8], out: &mut Writer)
-    requires { check_sheet s.now ≡ Accepted }
-    ensures { out.new ≡ out.old with_text code_text s.now }
+pub fn put_code(sheet: AcceptedSheet<'_>, out: &mut Writer)
+    ensures { out.new ≡ out.old with_text code_text sheet.entry.bytes.now }
 {
-    put_heading(s, out);
-    for k in 0..usize::from(u16_at(s, 4)) {
-        put_code_line(k as u32, instruction_at(s, k), out);
+    put_heading(sheet.bytes, out);
+    for k in 0..sheet.count {
+        put_code_line(k as u32, sheet.instruction(k), out);
     }
 }

@@ -95,26 +95,27 @@ const CONSTANTS: [&[u8]; 7] = [
 
 const PROPS: [&[u8]; 3] = [b"Assert", b"Assume", b"Modifies"];
 
-// What an instruction of this kind begins with; an Assign has only its name.
+// What an instruction of this kind begins with; an Assign has only its name. By number: a byte that is no kind has a word too, the empty one.
 pub fn verb(kind: u8) -> &'static [u8]
     ensures { result.now ≡ word kind verbs }
 {
-    word(&VERBS, kind)
+    word(&VERBS, usize::from(kind))
 }
 
-// The name of an instruction's sub: of an Assign, a Call, a Load and a Prop.
+// The name of an instruction's sub: of an Assign, a Call, a Load and a Prop. By the kind's number, as verb.
 #[tactic(auto, unfolding(crate::specs::Code::names))]
 pub fn name(r: Bytecode) -> &'static [u8]
     ensures { result.now ≡ word r.sub (names r.kind) }
 {
+    let sub = usize::from(r.sub);
     if r.is(Kind::Assign) {
-        word(&ASSIGNS, r.sub)
+        word(&ASSIGNS, sub)
     } else if r.is(Kind::Call) {
-        word(&OPERATIONS, r.sub)
+        word(&OPERATIONS, sub)
     } else if r.is(Kind::Load) {
-        word(&CONSTANTS, r.sub)
+        word(&CONSTANTS, sub)
     } else if r.is(Kind::Prop) {
-        word(&PROPS, r.sub)
+        word(&PROPS, sub)
     } else {
         b""
     }

@@ -6,10 +6,10 @@ ghost use Rattle.pages.specs.Words.{word, marked, listed};
 use listing::writer::Writer;
 
 // Word i of a list, and nothing where it has none.
-pub fn word(words: &[&'static [u8]], i: u8) -> &'static [u8]
+pub fn word<'a>(words: &[&'a [u8]], i: usize) -> &'a [u8]
     ensures { result.now ≡ word i (map (λ w. w.now) words.now) }
 {
-    match words.get(usize::from(i)) {
+    match words.get(i) {
         Some(w) => w,
         None => b"",
     }

@@ -1,7 +1,7 @@
 // A stored case, asked of the call that it names: whether the call answers as it is stored, and none where the case is damaged. Assumes nothing.
 use agreement::{
-    Dying, Graph, LentCall, Live, Renumber, Rewrite, StoredCase, check_agrees, conditional_agrees,
-    flow_agrees, in_use_agrees, label_agrees, lent_agrees, live_class_agrees,
+    Dying, InputGraph, LentCall, Live, Renumber, Rewrite, StoredCase, check_agrees,
+    conditional_agrees, flow_agrees, in_use_agrees, label_agrees, lent_agrees, live_class_agrees,
 };
 use base::{ANSWER_NUMBERS, BLOCK_BYTES, LIVE_BYTES, MAX_SHEETS};
 use sheet::reader::u32_at;
@@ -35,7 +35,7 @@ const SHEET_ROW: usize = 16;
 pub const GRAPH_BYTES: usize = TRIPLES_AT + 4 * TRIPLE_NUMBERS;
 
 // The graph in these bytes, whose list of triples goes to the front of `triples`.
-fn graph_in<'a>(p: &[u8], triples: &'a mut [u32]) -> Option<Graph<'a>> {
+fn graph_in<'a>(p: &[u8], triples: &'a mut [u32]) -> Option<InputGraph<'a>> {
     let (head, list) = p.split_at_checked(TRIPLES_AT)?;
     if list.len() % 4 != 0 {
         return None;
@@ -44,7 +44,7 @@ fn graph_in<'a>(p: &[u8], triples: &'a mut [u32]) -> Option<Graph<'a>> {
     for (x, bytes) in out.iter_mut().zip(list.chunks_exact(4)) {
         *x = u32_at(bytes, 0);
     }
-    Some(Graph {
+    Some(InputGraph {
         nodes: u32_at(head, 0),
         live: u64::from_le_bytes(*head[4..].first_chunk().unwrap()),
         triples: out,
@@ -75,7 +75,7 @@ fn ask_lent<C: LentCall>(call: &C, stored: StoredCase<'_>) -> Option<bool> {
 }
 
 // In use, or conditional, of the node in four bytes.
-fn ask_node<F: Fn(Graph<'_>, u32, u64) -> bool>(
+fn ask_node<F: Fn(InputGraph<'_>, u32, u64) -> bool>(
     agrees: F,
     graph: &[u8],
     asked: &[u8],

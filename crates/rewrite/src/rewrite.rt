@@ -8,16 +8,17 @@ ghost use Rattle.sheet_writer.specs.Written.{SheetWritten};
 ghost use Rattle.livevar_analysis.specs.Analysis.{infos_of};
 ghost use Rattle.livevar_transform.specs.Rewrite.{sheet_info, rewrite_reply};
 ghost use Rattle.livevar_transform.specs.RewriteAccepted.{AcceptedRewriting};
-ghost use Rattle.livevar_transform.specs.Plan.{Fitting, LowNext, code_by};
+ghost use Rattle.livevar_transform.specs.Plan.{code_by};
 ghost use Rattle.livevar_transform.specs.RewriteWork.{check_new, RewriteAnswers, fit_between};
 
 use base::{LIVE_BYTES, MAX_BYTES, MAX_INSTRUCTIONS, MAX_NUMBER, REFS_AT, Refusal, SLOTS};
+use dataflow_domains::LiveVarState;
 use live::analysis::analyze;
-use livevar_transform::plan::{LiveSheet, Next, Plan, PlanArrays, first_numbers, set_in};
-use sheet::accepted::AcceptedSheet;
+use livevar_transform::plan::{Fate, LiveSheet, Next, count, first_numbers, set_in};
+use sheet::accepted::ResolvedSheet;
 use sheet_checks::check::read;
 use sheet_writer::whole::{FLAT_BYTES, write_sheet};
-use transform_code::write::transform_code;
+use transform_code::write::{NumberedPlan, transform_code};
 
 // No number was used up, or those behind are at most one above the highest.
 fn numbers_fit(first: Next, last: Next) -> bool
@@ -44,17 +45,15 @@ fn check_new(fits: bool, short: bool) -> Result<(), Refusal>
 }
 
 // The new code by its plan, of m instructions, and the new sheet; its length.
-fn write_new(plan: Plan, first: Next, m: usize, out: &mut [u8]) -> u32
-    requires fits { Fitting (map mask plan.arrays.now.lost) plan.sheet.count first }
-    requires low { LowNext first }
-    requires long { m ≡ length (code_by (code_of plan.sheet.bytes.now) plan.arrays.now.fates (map mask plan.arrays.now.lost) plan.sheet.count first) }
+fn write_new(numbered: NumberedPlan, m: usize, out: &mut [u8]) -> u32
+    requires long { m ≡ length (code_by (code_of numbered.plan.sheet.bytes.now) numbered.plan.fates.now (map mask numbered.plan.lost.now) numbered.plan.sheet.count numbered.first) }
     requires few { m ≤ max_instructions }
     requires room { max_bytes ≤ length out.old }
-    ensures { SheetWritten (sheet_of (heading_rest plan.entry.sheet.bytes.now) (code_by (code_of plan.entry.sheet.bytes.now) plan.entry.arrays.now.fates (map mask plan.entry.arrays.now.lost) plan.entry.sheet.count first)) out.old result out.new }
+    ensures { SheetWritten (sheet_of (heading_rest numbered.entry.plan.sheet.bytes.now) (code_by (code_of numbered.entry.plan.sheet.bytes.now) numbered.entry.plan.fates.now (map mask numbered.entry.plan.lost.now) numbered.entry.plan.sheet.count numbered.entry.first)) out.old result out.new }
 {
     let mut flat = [0u8; FLAT_BYTES];
-    transform_code(plan, first, &mut flat);
-    write_sheet(plan.sheet.bytes, m, &flat, out)
+    transform_code(numbered, &mut flat);
+    write_sheet(numbered.plan.sheet.bytes, m, &flat, out)
 }
 
 // Rewriting of an accepted sheet whose live sets are given.
@@ -64,18 +63,19 @@ pub fn rewrite_sheet(live: LiveSheet, out: &mut [u8]) -> Result<u32, Refusal>
     ensures { RewriteAnswers live.entry.sheet.bytes.now out.old result out.new }
 {
     let refs = set_in(live.sheet.bytes, REFS_AT);
-    let mut arrays = PlanArrays::new();
-    let plan = live.plan(refs, &mut arrays);
-    let first = first_numbers(live.sheet);
-    let counts = plan.count(first);
+    let mut fates = [Fate::Kept; MAX_INSTRUCTIONS];
+    let mut lost = [LiveVarState::empty(); SLOTS];
+    let plan = live.plan(refs, &mut fates, &mut lost);
+    let first = first_numbers(plan.sheet);
+    let counts = count(plan.fates, plan.lost, plan.sheet.count, first);
     let last = counts.next;
     let m = counts.kept + (last.attr - first.attr) as usize;
     check_new(numbers_fit(first, last), m <= MAX_INSTRUCTIONS)?;
-    Ok(write_new(plan, first, m, out))
+    Ok(write_new(NumberedPlan { plan, first }, m, out))
 }
 
 // Rewriting of an accepted sheet: its live sets, then the new code.
-fn analyze_and_transform(sheet: AcceptedSheet, out: &mut [u8]) -> Result<u32, Refusal>
+fn analyze_and_transform(sheet: ResolvedSheet, out: &mut [u8]) -> Result<u32, Refusal>
     requires { max_bytes ≤ length out.old }
     ensures { RewriteAnswers sheet.entry.bytes.now out.old result out.new }
 {

@@ -5,10 +5,11 @@ ghost use Rattle.base.specs.Lists.{first_bad};
 ghost use Rattle.stackless_bytecode.specs.declared.Bytecode.{Bytecode};
 ghost use Rattle.stackless_bytecode.specs.Kinds.{at};
 ghost use Rattle.sheet.specs.Layout.{decode, code_of};
-ghost use Rattle.sheet.specs.Shaped.{Shaped, Lists};
+ghost use Rattle.sheet.specs.Shaped.{Lists};
 ghost use Rattle.sheet.specs.InBlock.{record_in};
 ghost use Rattle.sheet.specs.ByBlocks.{Finds};
 
+use crate::shaped::ShapedSheet;
 use base::{BLOCK_BYTES, BLOCK_RECORDS, RECORD_BYTES, RECORDS_FROM};
 
 // A test of the instruction that a record's bytes are; what it doesn't need it need not decode.
@@ -24,7 +25,8 @@ pub trait RecordTest {
 // The first of m records of one block at which the test fails; the first of them has offset `from`.
 fn first_in<T: RecordTest>(test: &T, p: &[u8], from: usize, m: usize) -> Option<usize>
     requires block { length p.now ≡ block_bytes }
-    requires few { (from ≤ max_instructions) × (m ≤ block_records) }
+    requires from { from ≤ max_instructions }
+    requires few { m ≤ block_records }
     requires lists { (k : ℕ) → from ≤ k → k < from + m → Lists (decode (record_in p.now from k)) }
     ensures { Finds from (from + m) (λ k. T.test test.now (decode (record_in p.now from k))) result }
 {
@@ -37,17 +39,16 @@ fn first_in<T: RecordTest>(test: &T, p: &[u8], from: usize, m: usize) -> Option<
     None
 }
 
-// The first of a sheet's n instructions at which the test fails. It goes block by block, so that no offset is divided by the records of a block.
-pub fn first_failing<T: RecordTest>(test: &T, s: &[u8], n: usize) -> Option<usize>
-    requires { Shaped s.now n }
-    ensures first { result ≡ first_bad n 0 (λ k. T.test test.now (at (code_of s.now) k)) }
-    ensures within { IfSome result (λ k. k < n) }
+// The first instruction of a sheet at which the test fails. It goes block by block, so that no offset is divided by the records of a block.
+pub fn first_failing<T: RecordTest>(test: &T, sheet: ShapedSheet<'_>) -> Option<usize>
+    ensures first { result ≡ first_bad sheet.entry.count 0 (λ k. T.test test.now (at (code_of sheet.entry.bytes.now) k)) }
+    ensures within { IfSome result (λ k. k < sheet.entry.count) }
 {
-    for b in 0..n.div_ceil(BLOCK_RECORDS) {
+    for b in 0..sheet.count.div_ceil(BLOCK_RECORDS) {
         let at = BLOCK_BYTES * (1 + b);
         let from = BLOCK_RECORDS * b;
-        let m = (n - from).min(BLOCK_RECORDS);
-        if let Some(k) = first_in(test, &s[at..at + BLOCK_BYTES], from, m) {
+        let m = (sheet.count - from).min(BLOCK_RECORDS);
+        if let Some(k) = first_in(test, &sheet.bytes[at..at + BLOCK_BYTES], from, m) {
             return Some(k);
         }
     }

@@ -10,7 +10,7 @@ use base::{
     BLOCK_BYTES, BLOCK_RECORDS, MAX_BYTES, MAX_INSTRUCTIONS, MAX_LOCALS, RECORDS_FROM, REFS_AT,
     REFS_END,
 };
-use sheet::reader::{all_zero, u16_at};
+use sheet::reader::{all_zero, count_of, locals_of, parameters_of, u16_at, user_locals_of};
 
 // Check 1: whole blocks, at least two, and no more than the longest sheet has.
 #[tactic(auto, unfolding(sheet::specs::Checks::length_ok))]
@@ -20,7 +20,7 @@ pub fn length_ok(n: usize) -> bool
     (n % BLOCK_BYTES == 0) & (2 * BLOCK_BYTES <= n) & (n <= MAX_BYTES)
 }
 
-// The sum of the bytes.
+// The sum of the bytes. A `for`: its invariant says that the sum fits, which of a chain has to be said beside it.
 pub fn total(s: &[u8]) -> usize
     requires { length s.now ≤ 65536 }
     ensures { (result ≡ sum s.now) × (result ≤ 255 * length s.now) }
@@ -33,6 +33,7 @@ pub fn total(s: &[u8]) -> usize
 }
 
 // Check 2 of one block: its number, its check, and zeros before the records of a later one.
+#[tactic(auto, unfolding(sheet::specs::Checks::block_ok), using(sheet::specs::BlockLaws::check_is))]
 pub fn block_ok(p: &[u8], b: usize) -> bool
     requires { length p.now ≡ block_bytes }
     ensures { result ≡ block_ok p.now b }
@@ -41,6 +42,7 @@ pub fn block_ok(p: &[u8], b: usize) -> bool
     let check = usize::from(u16_at(p, 2));
     let t = total(&p[0..2]) + total(&p[4..BLOCK_BYTES]);
     let clear = all_zero(&p[4..RECORDS_FROM]);
+    // The check is the sum's lower two bytes.
     (number == b) & (check == t % 65536) & ((b == 0) | clear)
 }
 
@@ -51,6 +53,7 @@ pub fn first_bad_block(s: &[u8]) -> Option<usize>
     ensures first { result ≡ first_bad (length s.now / block_bytes) 0 (λ b. block_ok (block_at s.now b) b) }
     ensures within { IfSome result (λ b. b < length s.now / block_bytes) }
 {
+    // A range: over chunks_exact the proof speaks of the list of all that was handed out, and is no plainer.
     for b in 0..s.len() / BLOCK_BYTES {
         let at = BLOCK_BYTES * b;
         if !block_ok(&s[at..at + BLOCK_BYTES], b) {
@@ -61,6 +64,7 @@ pub fn first_bad_block(s: &[u8]) -> Option<usize>
 }
 
 // Whether a byte has no bit at or above l.
+#[tactic(auto, using(base::specs::ByteLaws::byte_all, base::specs::ByteLaws::shift_none))]
 fn byte_below(x: u8, l: usize) -> bool
     ensures { result ≡ ltb x (2 ^ l) }
 {
@@ -85,6 +89,7 @@ fn mask_below(p: &[u8], l: usize) -> bool
 }
 
 // How many blocks hold n records.
+#[tactic(auto, unfolding(sheet::specs::Layout::record_blocks))]
 pub fn record_blocks(n: usize) -> usize
     requires { n ≤ max_number }
     ensures { (result ≡ record_blocks n) × (result ≤ n) }
@@ -93,14 +98,15 @@ pub fn record_blocks(n: usize) -> usize
 }
 
 // Check 3: the heading, and as many blocks as its instructions need.
+#[tactic(auto, unfolding(sheet::specs::Checks::heading_ok, sheet::specs::Layout::refs_of))]
 pub fn heading_ok(s: &[u8]) -> bool
     requires { 2 * block_bytes ≤ length s.now }
     ensures { result ≡ heading_ok s.now }
 {
-    let n = usize::from(u16_at(s, 4));
-    let locals = usize::from(u16_at(s, 6));
-    let users = usize::from(u16_at(s, 8));
-    let parameters = usize::from(u16_at(s, 10));
+    let n = usize::from(count_of(s));
+    let locals = usize::from(locals_of(s));
+    let users = usize::from(user_locals_of(s));
+    let parameters = usize::from(parameters_of(s));
     let clear = all_zero(&s[12..REFS_AT]);
     let refs = mask_below(&s[REFS_AT..REFS_END], locals);
     let rest = all_zero(&s[REFS_END..BLOCK_BYTES]);

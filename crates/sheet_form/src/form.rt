@@ -10,7 +10,7 @@ ghost use Rattle.sheet.specs.Shaped.{Sized};
 use crate::blocks::{first_bad_block, heading_ok, length_ok};
 use crate::records::first_bad_record;
 use base::Refusal;
-use sheet::reader::u16_at;
+use sheet::reader::count_of;
 
 fn check_length(s: &[u8]) -> Result<(), Refusal>
     ensures checked { result ≡ check_whole Refusal.Length (length_ok (length s.now)) }
@@ -33,6 +33,7 @@ fn check_blocks(s: &[u8]) -> Result<(), Refusal>
     }
 }
 
+#[tactic(auto, using(sheet::specs::AcceptLaws::is_heading))]
 fn check_heading(s: &[u8]) -> Result<(), Refusal>
     requires { 2 * block_bytes ≤ length s.now }
     ensures checked { result ≡ check_whole Refusal.Heading (heading_ok s.now) }
@@ -45,12 +46,13 @@ fn check_heading(s: &[u8]) -> Result<(), Refusal>
     Err(Refusal::Heading)
 }
 
+#[tactic(auto, unfolding(sheet::specs::Layout::record_blocks))]
 fn check_records(s: &[u8]) -> Result<(), Refusal>
     requires few { count_of s.now ≤ max_instructions }
     requires size { length s.now ≡ block_bytes * (1 + record_blocks (count_of s.now)) }
     ensures { result ≡ check Refusal.Record (first_bad (block_records * record_blocks (count_of s.now)) 0 (place_ok s.now)) }
 {
-    match first_bad_record(s, usize::from(u16_at(s, 4))) {
+    match first_bad_record(s, usize::from(count_of(s))) {
         Some(k) => Err(Refusal::Record(k as u16)),
         None => Ok(()),
     }

@@ -20,7 +20,7 @@ const KINDS: usize = 12;
 // The most places of a list.
 const MOST: u8 = LIST_PLACES as u8;
 
-// A row of the table: subs, destinations from and to, sources from and to, label one, label two, flag, payload.
+// A row of the table: subs, destinations from and to, sources from and to, label one, label two, flag, payload. Nine parameters, so that the rows below read as the paper's table.
 fn row(
     subs: u8,
     dlow: u8,
@@ -47,7 +47,7 @@ fn row(
     }
 }
 
-// The table of kinds.
+// The table of kinds, by the kind's number: the paper asks for this form by place.
 pub fn shape_of(kind: u8) -> Shape
     ensures { result ≡ shape_of kind }
 {
@@ -113,6 +113,7 @@ fn zero_from(list: &[u8; LIST_PLACES], n: u8) -> bool
 
 // Whether a record keeps to a row: what it does not use is 0, and so is each list place past its count.
 // A jump that is never taken costs less than a bool that is kept, so the ranges come first, and the lists last.
+#[tactic(auto, using(crate::specs::RowLaws::no_ranges, crate::specs::RowLaws::no_unused, crate::specs::RowLaws::lists_left))]
 pub fn fits(f: Shape, r: Bytecode) -> bool
     ensures { result ≡ fits f r }
 {
@@ -136,8 +137,10 @@ pub fn fits(f: Shape, r: Bytecode) -> bool
 }
 
 // A record's part, with the row of its kind: an instruction where it is used, else zeros.
+#[tactic(auto, unfolding(sheet::specs::Checks::record_ok, sheet::specs::Layout::decode))]
 fn place_ok(f: Shape, p: &[u8], used: bool) -> bool
-    requires { (length p.now ≡ record_bytes) × (f ≡ shape_of (get_or p.now 0 0)) }
+    requires size { length p.now ≡ record_bytes }
+    requires row { f ≡ shape_of (get_or p.now 0 0) }
     ensures { result ≡ cond used (record_ok (decode p.now)) (zeros p.now) }
 {
     if used {
@@ -148,7 +151,8 @@ fn place_ok(f: Shape, p: &[u8], used: bool) -> bool
 
 // The first wrong record of one block, whose first has place `from`. What starts with no kind is neither an instruction nor zeros.
 fn first_bad_in(p: &[u8], from: usize, n: usize) -> Option<usize>
-    requires { (length p.now ≡ block_bytes) × (from ≤ 2 * max_instructions) }
+    requires block { length p.now ≡ block_bytes }
+    requires from { from ≤ 2 * max_instructions }
     ensures { Finds from (from + block_records) (in_block p.now from n) result }
 {
     let table = rows();
@@ -166,8 +170,11 @@ fn first_bad_in(p: &[u8], from: usize, n: usize) -> Option<usize>
 }
 
 // Check 4: the first record that breaks the table, or past n is not zero. It goes block by block, so that no place is divided by 15.
+#[tactic(auto, unfolding(sheet::specs::Layout::record_blocks))]
 pub fn first_bad_record(s: &[u8], n: usize) -> Option<usize>
-    requires { (n ≡ count_of s.now) × (n ≤ max_instructions) × (length s.now ≡ block_bytes * (1 + record_blocks n)) }
+    requires count { n ≡ count_of s.now }
+    requires few { n ≤ max_instructions }
+    requires size { length s.now ≡ block_bytes * (1 + record_blocks n) }
     ensures first { result ≡ first_bad (block_records * record_blocks n) 0 (place_ok s.now) }
     ensures within { IfSome result (λ k. k < block_records * record_blocks n) }
 {

@@ -1,6 +1,7 @@
 -- Check 5 one place a turn, and one list after the other. Assumes nothing.
-use Rattle.std.specs.Prelude.{◌≡◌, refl, Bool, true, false, not, ◌||◌, ◌&&◌, List, [], ◌∷◌, ◌++◌, ℕ, suc, ◌+◌, ◌≤◌, ◌<◌, ltb, get_or, length, take, drop}
+use Rattle.std.specs.Prelude.{◌≡◌, Bool, true, false, not, ◌||◌, ◌&&◌, List, ◌++◌, ℕ, suc, ◌+◌, ◌≤◌, ◌<◌, ltb, get_or, length, take, drop}
 use Rattle.std.proofs.Common.{sym, ap, ap₂, ◌∙◌, add-one, arith, lt-ltb, le-ltb, length-take, drop_of_length-le, drop-cons, get_or-take}
+use Rattle.std.proofs.lemmas.List.Folds.{list_all-append}
 use Rattle.base.specs.Lists.{all}
 use Rattle.stackless_bytecode.specs.declared.Bytecode.{Bytecode}
 use Rattle.stackless_bytecode.specs.Kinds.{dsts_of, srcs_of, is_flagged}
@@ -38,12 +39,7 @@ module _ (n count : ℕ) (xs : List ℕ) (fits : count ≤ length xs) where
 -- ---- one list after the other
 
 all_append : (f : ℕ → Bool) (xs ys : List ℕ) → all f (xs ++ ys) ≡ all f xs && all f ys
-all_append f [] ys = refl
-all_append f (x ∷ xs) ys = ap (λ (b : Bool). f x && b) (all_append f xs ys) ∙ sym (and_assoc (f x) (all f xs) (all f ys))
-  where
-    and_assoc : (a b c : Bool) → a && b && c ≡ a && (b && c)
-    and_assoc true b c = refl
-    and_assoc false b c = refl
+all_append f xs ys = list_all-append f xs ys
 
 -- one list after the other, and the abort local
 pub locals_ok_lem : (n : ℕ) (r : Bytecode) → locals_ok n r ≡ (all (λ x. ltb x n) (take r.ndst r.dsts) && all (λ x. ltb x n) (take r.nsrc r.srcs) && (not (is_flagged r) || ltb r.abort n))

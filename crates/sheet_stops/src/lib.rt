@@ -5,10 +5,10 @@ ghost use Rattle.std.specs.Prelude.{◌≡◌, ◌<◌, IfSome};
 ghost use Rattle.base.specs.Lists.{first_bad};
 ghost use Rattle.stackless_bytecode.specs.Kinds.{at, stop_ok};
 ghost use Rattle.sheet.specs.Layout.{code_of};
-ghost use Rattle.sheet.specs.Shaped.{Shaped};
 
 use sheet::reader::decode;
 use sheet::search::{RecordTest, first_failing};
+use sheet::shaped::ShapedSheet;
 use stackless_bytecode::is_stop;
 
 // A record that is no Stop with an abort action. Only where its operation is Stop is more of it read.
@@ -24,10 +24,9 @@ impl RecordTest for UnflaggedStop {
 }
 
 // The first Stop with an abort action.
-pub fn first_bad_stop(s: &[u8], n: usize) -> Option<usize>
-    requires { Shaped s.now n }
-    ensures first { result ≡ first_bad n 0 (λ k. stop_ok (at (code_of s.now) k)) }
-    ensures within { IfSome result (λ k. k < n) }
+pub fn first_bad_stop(sheet: ShapedSheet<'_>) -> Option<usize>
+    ensures first { result ≡ first_bad sheet.entry.count 0 (λ k. stop_ok (at (code_of sheet.entry.bytes.now) k)) }
+    ensures within { IfSome result (λ k. k < sheet.entry.count) }
 {
-    first_failing(&UnflaggedStop, s, n)
+    first_failing(&UnflaggedStop, sheet)
 }

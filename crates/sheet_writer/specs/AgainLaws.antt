@@ -1,6 +1,7 @@
 -- A sheet with a heading that keeps to its layout, and any code, is accepted where the code meets checks 4, 18 and 5 to 8. Assumes nothing.
 use Rattle.base.specs.declared.Refusal.TheVariants.{Block, Heading, Length, Record}
-use Rattle.std.specs.Prelude.{◌≡◌, Bool, ◌||◌, ◌&&◌, get_or, drop, length, refl, true, false, cond, List, ℕ, zero, suc, ◌+◌, ◌-◌, ◌*◌, ◌/◌, ◌%◌, ◌^◌, ◌≤◌, ◌<◌, eqb}
+use Rattle.std.specs.Prelude.{◌≡◌, Bool, ◌||◌, ◌&&◌, get_or, drop, length, refl, true, cond, List, ℕ, zero, suc, ◌+◌, ◌-◌, ◌*◌, ◌/◌, ◌%◌, ◌^◌, ◌≤◌, ◌<◌, eqb}
+use Rattle.std.proofs.Math.Bool.{or-true}
 use Rattle.std.proofs.Common.{sym, ap, ap₂, ◌∙◌, subst, eq-eqb, le-leb, lt-ltb, le-ltb, length-take, length-drop, get_or-take, get_or-drop, arith}
 use Rattle.stackless_bytecode.specs.declared.Bytecode.{Bytecode}
 use Rattle.base.specs.Sizes.{set_bytes, refs_at, block_bytes, record_bytes, records_from, block_records, max_blocks, max_bytes}
@@ -103,11 +104,7 @@ module _ (s : List ℕ) (old : HeadingLayout s) (code : List Bytecode) (body : B
       let is = ap (block_at sheet) one ∙ later_block (heading_rest s) code full b (omega arith) in
       ap (λ (p : List ℕ). eqb (u16_at p 0) (suc b) && eqb (u16_at p 2) (check_of p) && (eqb (suc b) 0 || zeros (part p 4 (records_from - 4)))) is
       ∙ and_both (and_both (eq-eqb _ (suc b) (later_number (heading_rest s) code full b (omega (arith, few_blocks)) ∙ sym one)) (eq-eqb _ _ (later_check (heading_rest s) code full b)))
-      (ap (λ (x : Bool). eqb (suc b) 0 || x) (later_zeros (heading_rest s) code full b) ∙ either (eqb (suc b) 0))
-    where
-      either : (x : Bool) → x || true ≡ true
-      either true = refl
-      either false = refl
+      (ap (λ (x : Bool). eqb (suc b) 0 || x) (later_zeros (heading_rest s) code full b) ∙ or-true (eqb (suc b) 0))
 
   place_ok_lem : (k : ℕ) → k < block_records * record_blocks (length code) → place_ok sheet k ≡ true
   unfolding place_ok

@@ -121,7 +121,7 @@ block_is : (b : ℕ) (body : List ℕ) → block_of b body ≡ b % 256 ∷ b / 2
 unfolding block_of bytes_of
 block_is b body = refl
 
-block_length : (b : ℕ) (body : List ℕ) → length body ≡ block_bytes - 4 → length (block_of b body) ≡ block_bytes
+pub block_length : (b : ℕ) (body : List ℕ) → length body ≡ block_bytes - 4 → length (block_of b body) ≡ block_bytes
 block_length b body h = ap length (block_is b body) ∙ (omega arith)
 
 -- behind its number and check

@@ -14,7 +14,7 @@ use Rattle.stackless_bytecode.specs.declared.Bytecode.{Bytecode}
 use Rattle.sheet.specs.Layout.{heading_rest, encode, record_blocks, block_of, body_of, sheet_of}
 use Rattle.base.specs.GrowLaws.{gather_append}
 use Rattle.sheet_writer.specs.Written.{placed, body_bytes, gap_bytes, later_of, Blocks, Holds, Blank}
-use Rattle.sheet_writer.specs.EncodeLaws.{sheet_length}
+use Rattle.sheet_writer.specs.EncodeLaws.{block_length, sheet_length}
 use Rattle.sheet_writer.specs.RecordsLaws.{records_length, placed_length, tail_is}
 
 -- ---- a copy of as many bytes
@@ -150,14 +150,10 @@ later_parts d gap records size long =
 
 -- ---- all later blocks
 
-block_long : (b : ℕ) (body : List ℕ) → length body ≡ block_bytes - 4 → length (block_of b body) ≡ block_bytes
-unfolding block_of bytes_of
-block_long b body h = omega arith
-
 later_long : (flat : List ℕ) (b : ℕ) → body_bytes * b + body_bytes ≤ length flat → length (later_of flat b) ≡ block_bytes
 unfolding later_of
 later_long flat b h =
-    block_long (1 + b) (replicate gap_bytes 0 ++ part flat (body_bytes * b) body_bytes)
+    block_length (1 + b) (replicate gap_bytes 0 ++ part flat (body_bytes * b) body_bytes)
     (length-append (replicate gap_bytes 0) (part flat (body_bytes * b) body_bytes) ∙ (omega (arith, length-replicate {A = ℕ} gap_bytes 0, length-take body_bytes (drop (body_bytes * b) flat), length-drop (body_bytes * b) flat)))
 
 pub later_by : (flat : List ℕ) (b : ℕ) (new : List ℕ) → new ≡ block_of (1 + b) (replicate gap_bytes 0 ++ take (body_bytes * b + body_bytes - body_bytes * b) (drop (body_bytes * b) flat)) → new ≡ later_of flat b
@@ -241,7 +237,7 @@ module _ (rest : List ℕ) (code : List Bytecode) (flat : List ℕ) (h : Holds f
       → take block_bytes (first ++ drop block_bytes d) ++ (later ++ drop (length (first ++ drop block_bytes d) - block_bytes) (drop block_bytes (first ++ drop block_bytes d)))
       ≡ sheet_of rest code ++ drop (length (sheet_of rest code)) d
   sheet_written m d first later size em ef w =
-      let long : length first ≡ block_bytes = ap length ef ∙ block_long 0 (bytes_of 2 (length code) ++ rest) (length-append (bytes_of 2 (length code)) rest ∙ (unfold bytes_of in omega arith)) in
+      let long : length first ≡ block_bytes = ap length ef ∙ block_length 0 (bytes_of 2 (length code) ++ rest) (length-append (bytes_of 2 (length code)) rest ∙ (unfold bytes_of in omega arith)) in
       let all : first ++ joins m (later_of flat) ≡ sheet_of rest code = ap₂ (λ (x : List ℕ) (y : ℕ). x ++ joins y (later_of flat)) ef em ∙ sheet_is in
       let place : block_bytes + block_bytes * m ≡ length (sheet_of rest code) = sym (length-append first (joins m (later_of flat)) ∙ (omega (arith, w.long))) ∙ ap length all in
       behind block_bytes (block_bytes * m) d first later (joins m (later_of flat)) long w.is

@@ -10,22 +10,25 @@ use sheet::reader::{DSTS_AT, PAYLOAD_AT, SRCS_AT};
 use stackless_bytecode::Bytecode;
 
 // A number in two bytes, little-endian.
+#[tactic(auto, using(base::specs::ByteLaws::le_bytes_2))]
 pub fn put_u16(out: &mut [u8], x: u16)
     requires { length out.old ≡ 2 }
     ensures { out.new ≡ bytes_of 2 x }
 {
-    out.copy_from_slice(&x.to_le_bytes());
+    out.copy_from_slice(&u16::to_le_bytes(x));
 }
 
 // A number in four bytes, little-endian.
+#[tactic(auto, using(base::specs::ByteLaws::le_bytes_4))]
 pub fn put_u32(out: &mut [u8], x: u32)
     requires { length out.old ≡ 4 }
     ensures { out.new ≡ bytes_of 4 x }
 {
-    out.copy_from_slice(&x.to_le_bytes());
+    out.copy_from_slice(&u32::to_le_bytes(x));
 }
 
 // The places of a list.
+#[tactic(auto, using(crate::specs::EncodeLaws::padded_full))]
 pub fn put_places(out: &mut [u8], xs: [u8; LIST_PLACES])
     requires { length out.old ≡ list_places }
     ensures { out.new ≡ padded xs }

@@ -6,7 +6,7 @@
 --   marks         offset                              whether a block starts there
 --   lowers        block, by offset                    its lower
 --   uppers        offset                              the upper of its block
---   keys          offset                              the key of the block that starts there, 0 where none does
+--   keys          offset                              one more than the key of the block that starts there, 0 where none does
 --   lower_of_key  key, less 2                         the lower of its block
 --   upper_of_key  key, less 2                         the upper of its block (Graph)
 --   key_of_offset offset                              the key of its block (Graph)
@@ -14,9 +14,10 @@
 --   first_edge    key                                 where its part of edges starts; the next key's start ends it (Sorting)
 --   edges         first_edge                          what the key leads to backward (Sorting)
 --   table         block by offset, six places each    its row of the flow table
-use Rattle.std.specs.Prelude.{◌≡◌, Bool, true, false, cond, ℕ, suc, ◌+◌, ◌≤◌, ◌<◌, get_or, set, length, take, List, [], ◌∷◌, ◌++◌, map}
+use Rattle.std.specs.Prelude.{◌≡◌, Bool, true, false, cond, ℕ, suc, ◌+◌, ◌≤◌, ◌<◌, get_or, set, length, take, List, [], ◌∷◌, ◌++◌, map, unwrap_or}
 use mathlib.Core.List.{Memᴰ}
 use Rattle.base.specs.Lists.{keep, over}
+use Rattle.base.specs.Numbering.{number_of}
 use Rattle.stackless_bytecode.specs.declared.Bytecode.{Bytecode}
 use Rattle.stackless_bytecode.specs.Kinds.{at, is_branch, falls_through, branch_dests}
 use Rattle.stackless_bytecode.specs.Successors.{ascending, successors}
@@ -74,6 +75,10 @@ pub record BlocksFound (code : List Bytecode) (goes : List Successors) (ls upper
   pub offsets : length code ≤ length uppers
 
 -- ---- keys
+
+-- the key of the block that starts at o, where these lowers have keys; 0 where none does
+abbrev pub key_in : List ℕ → ℕ → ℕ
+key_in lowers o = unwrap_or (number_of 2 lowers o) 0
 
 -- the keys of the blocks that the block from l on goes to
 abbrev pub next_keys : List Bytecode → ℕ → List ℕ

@@ -1,11 +1,16 @@
 -- Keys, one block after the other. Assumes nothing.
-use Rattle.std.specs.Prelude.{◌≡◌, refl, ℕ, ◌+◌, ◌<◌, get_or, length, take, List, [], ◌∷◌, ◌++◌}
+use Rattle.std.specs.Prelude.{◌≡◌, refl, ◌≢◌, ℕ, ◌+◌, ◌<◌, get_or, length, take, List, [], ◌∷◌, ◌++◌}
 use Rattle.std.proofs.Common.{sym, ap, ◌∙◌, arith, take_all}
 use Rattle.base.specs.Lists.{firsts, gather}
 use Rattle.base.specs.GrowLaws.{gather_more, firsts_append}
 use Rattle.stackless_bytecode.specs.declared.Bytecode.{Bytecode}
 use Rattle.stackless_bytecode.specs.Successors.{successors}
-use Rattle.stackless_control_flow_graph.specs.Blocks.{lowers, upper_of, keyed}
+use Rattle.stackless_control_flow_graph.specs.Blocks.{lowers, upper_of, keyed, key_of}
+
+-- a key is not 0
+pub key_pos : (ks : List ℕ) (o : ℕ) → key_of ks o ≢ 0
+unfolding key_of
+key_pos ks o e = omega arith
 
 -- ---- what takes keys at the first b blocks: each block's successors, then the block
 

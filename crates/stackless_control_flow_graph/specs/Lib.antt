@@ -11,6 +11,7 @@ pub mod BlockLaws
 pub mod NextLaws
 pub mod StartLaws
 pub mod CheckedSheetLaws
+pub mod AcceptedLaws
 pub mod OffsetLaws
 pub mod KeyLaws
 pub mod FlowLaws
@@ -22,5 +23,6 @@ pub mod SortLaws
 pub mod SlotLaws
 pub mod LeadLaws
 pub mod SpreadLaws
+pub mod KeyInLaws
 pub mod AlikeLaws
 pub mod TargetLaws

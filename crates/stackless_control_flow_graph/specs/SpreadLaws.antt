@@ -4,7 +4,7 @@ use Rattle.std.proofs.Common.{sym, ◌∙◌, true≢false, arith, get_or-set_sa
 use Rattle.base.specs.Numbering.{number_of}
 use Rattle.base.specs.NumberingLaws.{number_in_list}
 use Rattle.base.specs.Lists.{has, place}
-use Rattle.base.specs.ListLaws.{by_test, by_eq, in_has, has_in, place_lt}
+use Rattle.base.specs.ListLaws.{by_test, by_eq, in_has, has_in}
 use Rattle.stackless_bytecode.specs.declared.Bytecode.{Bytecode}
 use Rattle.stackless_bytecode.specs.Sound.{Sound}
 use Rattle.stackless_control_flow_graph.specs.Blocks.{starts, lower_of, keyed, key_of}
@@ -18,35 +18,24 @@ pub record Spreading (code : List Bytecode) (out : List ℕ) (k last : ℕ) : Ty
 pub spread_begin : (code : List Bytecode) (out : List ℕ) → Spreading code out 0 0
 spread_begin code out = record { each = λ j h. absurd (omega arith); before = λ j e. absurd (omega arith) }
 
--- a number is below how many there are
-pub number_low : (xs : List ℕ) (x : ℕ) {p : ℕ} → number_of xs x ≡ Some p → p < length xs
-unfolding number_of
-number_low xs x {p} =
-    by_test (λ b. has x xs ≡ b → cond b (Some (place x xs)) None ≡ Some p → p < length xs) (has x xs)
-    (λ t q s. let same : place x xs ≡ p = cc in omega (arith, same, place_lt x xs (has_in x xs q)))
-    (λ f q s. absurd (none_some s)) refl
-  where
-    none_some : {n : ℕ} → ◌≡◌ {A = Option ℕ} None (Some n) → ⊥
-    none_some s = cc
-
--- the key by a block's number, where there is one, or else the last
+-- the key of a block, where one starts, or else the last
 abbrev pub key_or : Option ℕ → ℕ → ℕ
 key_or None last = last
-key_or (Some number) last = 2 + number
+key_or (Some key) last = key
 
 module _ (code : List Bytecode) (sound : Sound code) where
-  module _ (out : List ℕ) (k last last' : ℕ) (inside : k < length code) (is : last' ≡ key_or (number_of (keyed code) k) last) (s : Spreading code out k last) where
+  module _ (out : List ℕ) (k last last' : ℕ) (inside : k < length code) (is : last' ≡ key_or (number_of 2 (keyed code) k) last) (s : Spreading code out k last) where
     -- a lower has its own
     lower : has k (keyed code) ≡ true → last' ≡ key_of (keyed code) (lower_of code k)
     lower e =
         let own : 2 + place k (keyed code) ≡ key_of (keyed code) k = unfold key_of in omega arith in
-        is ∙ ap (λ (n : Option ℕ). key_or n last) (number_in_list (keyed code) k (has_in k (keyed code) e)) ∙ own
+        is ∙ ap (λ (n : Option ℕ). key_or n last) (number_in_list 2 (keyed code) k (has_in k (keyed code) e)) ∙ own
         ∙ ap (key_of (keyed code)) (sym (lower_start code k (in_keyed code sound k (has_in k (keyed code) e)).starts))
 
     -- any other offset is in the block of the offset before
     inner : has k (keyed code) ≡ false → last' ≡ key_of (keyed code) (lower_of code k)
     inner e =
-        let none : number_of (keyed code) k ≡ None = unfold number_of in ap (λ (b : Bool). cond b (Some (place k (keyed code))) None) e in
+        let none : number_of 2 (keyed code) k ≡ None = unfold number_of in ap (λ (b : Bool). cond b (Some (2 + place k (keyed code))) None) e in
         is ∙ ap (λ (n : Option ℕ). key_or n last) none
         ∙ by_test (λ b. starts code k ≡ b → last ≡ key_of (keyed code) (lower_of code k)) (starts code k)
         (λ t q. absurd (true≢false (sym (in_has k (keyed code) (keyed_in code k (record { inside = inside; starts = t }))) ∙ e)))

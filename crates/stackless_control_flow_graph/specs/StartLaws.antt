@@ -3,6 +3,7 @@ use Rattle.std.specs.Prelude.{◌≡◌, refl, ◌⊎◌, Bool, false, cond, not
 use Rattle.std.proofs.Common.{sym, ap₂, ◌∙◌, subst, ⊎_elim, true≢false, arith, add-one, length-set, get_or-set_same, get_or-set_other, ap, inl, inr}
 use mathlib.Core.List.Memᴰ
 use mathlib.Core.List.{Memᴰ}
+use Rattle.std.proofs.Math.Seq.{take-nil}
 use Rattle.base.specs.Lists.{any}
 use Rattle.base.specs.ListLaws.{by_test, by_eq, or-true, in_any}
 use Rattle.stackless_bytecode.specs.declared.Bytecode.{Bytecode}
@@ -19,6 +20,26 @@ use Rattle.stackless_control_flow_graph.specs.declared.Successors.{Successors}
 use Rattle.stackless_control_flow_graph.specs.Blocks.{starts}
 use Rattle.stackless_control_flow_graph.specs.BlockLaws.{Last, succs_start}
 use Rattle.stackless_control_flow_graph.specs.Arrays.{offsets_of, succs_by, succs_in, mark_all, Within, SuccessorsTo, Marked, Marking}
+
+-- ---- marks at an offset and at the first c of two more
+
+-- none, one, or both
+pub mark_none : (m : List Bool) (n c f s : ℕ) → c ≡ 0 → set m n true ≡ mark_all m (n ∷ take c (f ∷ s ∷ []))
+unfolding mark_all
+mark_none m n zero f s e = refl
+mark_none m n (suc c) f s e = absurd (omega arith)
+
+pub mark_one : (m : List Bool) (n c f s : ℕ) → c ≡ 1 → set (set m n true) f true ≡ mark_all m (n ∷ take c (f ∷ s ∷ []))
+unfolding mark_all
+mark_one m n zero f s e = absurd (omega arith)
+mark_one m n (suc zero) f s e = refl
+mark_one m n (suc (suc c)) f s e = absurd (omega arith)
+
+pub mark_two : (m : List Bool) (n c f s : ℕ) → (c ≡ 0 → ⊥) → (c ≡ 1 → ⊥) → set (set (set m n true) f true) s true ≡ mark_all m (n ∷ take c (f ∷ s ∷ []))
+unfolding mark_all
+mark_two m n zero f s h g = absurd (h refl)
+mark_two m n (suc zero) f s h g = absurd (g refl)
+mark_two m n (suc (suc c)) f s h g = ap (λ (l : List ℕ). mark_all m (n ∷ f ∷ s ∷ l)) (sym (take-nil c))
 
 -- ---- the successors of an offset, from the offsets of its labels
 

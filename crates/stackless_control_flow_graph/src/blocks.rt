@@ -1,4 +1,4 @@
-// The blocks by offset: the lower of each, and the lower and the upper of the block that an offset stands in. Assumes nothing.
+// The blocks by offset: the lower of each, and the upper of the block that an offset stands in. Assumes nothing.
 ghost use Rattle.std.specs.Prelude.{◌≡◌, List, ◌≤◌, ◌<◌, length, take};
 ghost use Rattle.base.specs.Sizes.{max_instructions};
 ghost use Rattle.stackless_bytecode.specs.declared.Bytecode.{Bytecode};
@@ -10,15 +10,19 @@ ghost use Rattle.sheet.specs.Code.{code_in};
 use crate::Successors;
 use crate::starts::visit_all;
 use base::MAX_INSTRUCTIONS;
-use sheet::accepted::AcceptedSheet;
+use sheet::accepted::ResolvedSheet;
 
 // A mark for each offset, and one behind the last.
 const MARKS: usize = MAX_INSTRUCTIONS + 1;
 
-// The lower of each block, by offset, to the front of `lowers`; how many blocks.
-fn list_lowers(marks: &[bool], n: usize, lowers: &mut [u16]) -> usize
-    requires { (n ≤ length marks.now) × (n ≤ length lowers.old) × (n ≤ max_instructions) }
-    ensures { (take result lowers.new ≡ marked_in marks.now n) × (result ≡ length (marked_in marks.now n)) × (result ≤ n) }
+// The lower of each block, by offset, to the front of `lowers`; how many blocks, counted as they are met. The marks are one more than the n offsets.
+pub fn list_lowers(marks: &[bool], n: usize, lowers: &mut [u16]) -> usize
+    requires marks { n ≤ length marks.now }
+    requires room { n ≤ length lowers.old }
+    requires few { n ≤ max_instructions }
+    ensures lowers { take result lowers.new ≡ marked_in marks.now n }
+    ensures count { result ≡ length (marked_in marks.now n) }
+    ensures within { result ≤ n }
 {
     let mut c = 0;
     for k in 0..n {
@@ -31,8 +35,10 @@ fn list_lowers(marks: &[bool], n: usize, lowers: &mut [u16]) -> usize
 }
 
 // The upper of the block of each offset, from the last offset to the first.
-fn find_uppers(marks: &[bool], n: usize, uppers: &mut [u16])
-    requires { (n ≤ length marks.now) × (n ≤ length uppers.old) × (n ≤ max_instructions) }
+pub fn find_uppers(marks: &[bool], n: usize, uppers: &mut [u16])
+    requires marks { n ≤ length marks.now }
+    requires room { n ≤ length uppers.old }
+    requires few { n ≤ max_instructions }
     ensures { (code : List Bytecode) → length code ≡ n → Marked code marks.now → Uppers code uppers.new }
 {
     let mut end = n;
@@ -44,18 +50,31 @@ fn find_uppers(marks: &[bool], n: usize, uppers: &mut [u16])
     }
 }
 
-// The arrays in which the blocks of a code are worked out.
+// The blocks of a sheet, into what is lent: the successors of each offset, the lowers by offset to the front of `lowers`, and the upper of the block of each offset. The result is how many blocks.
+pub fn find_blocks(
+    sheet: ResolvedSheet<'_>,
+    goes: &mut [Successors],
+    lowers: &mut [u16],
+    uppers: &mut [u16],
+) -> usize
+    requires goes { sheet.count ≤ length goes.old }
+    requires lowers { sheet.count ≤ length lowers.old }
+    requires uppers { sheet.count ≤ length uppers.old }
+    ensures found { BlocksFound (code_in sheet.entry) goes.new (take result lowers.new) uppers.new }
+    ensures few { result ≤ sheet.entry.count }
+{
+    let mut marks = [false; MARKS];
+    visit_all(sheet, goes, &mut marks);
+    find_uppers(&marks, sheet.count, uppers);
+    list_lowers(&marks, sheet.count, lowers)
+}
+
+// Arrays for the blocks of the largest code. They are lent, since an array by value is copied where it is handed on: three copies took 1.2 microseconds a flow.
 #[derive(Drop)]
 pub struct BlockArrays {
-    // The successors of each offset.
     goes: [Successors; MAX_INSTRUCTIONS],
-    // The lower of each block, by offset.
     lowers: [u16; MAX_INSTRUCTIONS],
-    // The upper of the block of each offset.
     uppers: [u16; MAX_INSTRUCTIONS],
-    // How many blocks.
-    count: usize,
-    ghost few: { count ≤ max_instructions },
 }
 
 impl BlockArrays {
@@ -64,27 +83,31 @@ impl BlockArrays {
             goes: [Successors::None; MAX_INSTRUCTIONS],
             lowers: [0; MAX_INSTRUCTIONS],
             uppers: [0; MAX_INSTRUCTIONS],
-            count: 0,
         }
     }
 
     // The blocks of a sheet.
-    pub fn find(&mut self, sheet: AcceptedSheet<'_>)
-        ensures { BlocksFound (code_in sheet.entry) self.new.goes (take self.new.count self.new.lowers) self.new.uppers }
+    pub fn find<'a>(&'a mut self, sheet: ResolvedSheet<'a>) -> Blocks<'a>
+        ensures { result.sheet ≡ sheet.entry }
     {
-        let mut marks = [false; MARKS];
-        visit_all(sheet, &mut self.goes, &mut marks);
-        find_uppers(&marks, sheet.count, &mut self.uppers);
-        self.count = list_lowers(&marks, sheet.count, &mut self.lowers);
+        let count = find_blocks(sheet, &mut self.goes, &mut self.lowers, &mut self.uppers);
+        Blocks {
+            sheet,
+            goes: &self.goes,
+            lowers: &self.lowers[..count],
+            uppers: &self.uppers,
+        }
     }
 }
 
-// The blocks of a sheet's code.
+// The blocks of a sheet's code: the successors of each offset, the lower of each block, by offset, and the upper of the block of each offset.
 #[derive(Clone, Copy)]
 pub struct Blocks<'a> {
-    pub sheet: AcceptedSheet<'a>,
-    pub arrays: &'a BlockArrays,
-    pub ghost found: { BlocksFound (code_in sheet) arrays.now.goes (take arrays.now.count arrays.now.lowers) arrays.now.uppers },
+    pub sheet: ResolvedSheet<'a>,
+    pub goes: &'a [Successors],
+    pub lowers: &'a [u16],
+    pub uppers: &'a [u16],
+    pub ghost found: { BlocksFound (code_in sheet) goes.now lowers.now uppers.now },
 }
 
 impl<'a> Blocks<'a> {
@@ -94,8 +117,7 @@ impl<'a> Blocks<'a> {
         ensures lowers { result.now ≡ lowers (code_in self.entry.sheet) }
         ensures count { length result.now ≡ blocks_of (code_in self.entry.sheet) }
     {
-        let lowers = &self.arrays.lowers[..];
-        &lowers[..self.arrays.count]
+        self.lowers
     }
 
     // The upper of the block of an offset.
@@ -104,7 +126,16 @@ impl<'a> Blocks<'a> {
         ensures upper { result ≡ upper_of (code_in self.entry.sheet) offset }
         ensures inside { result < length (code_in self.entry.sheet) }
     {
-        self.arrays.uppers[usize::from(offset)]
+        self.uppers[usize::from(offset)]
+    }
+
+    // Where the instruction at an offset goes.
+    pub fn successors(self, offset: u16) -> Successors
+        requires { offset < length (code_in self.sheet) }
+        ensures successors { offsets_of result ≡ successors (code_in self.entry.sheet) offset }
+        ensures within { Within max_instructions (offsets_of result) }
+    {
+        self.goes[usize::from(offset)]
     }
 
     // Where the block of an offset goes.
@@ -113,6 +144,6 @@ impl<'a> Blocks<'a> {
         ensures next { offsets_of result ≡ successors (code_in self.entry.sheet) (upper_of (code_in self.entry.sheet) offset) }
         ensures within { Within max_instructions (offsets_of result) }
     {
-        self.arrays.goes[usize::from(self.upper(offset))]
+        self.successors(self.upper(offset))
     }
 }

@@ -11,7 +11,7 @@ pub const MAX_SLOTS: usize = KEY_SLOTS * (MAX_INSTRUCTIONS + 2);
 // Where each key's part of the backward graph starts, with room for the counts.
 const FIRST_EDGES: usize = MAX_INSTRUCTIONS + 5;
 
-// The graph of a sheet's blocks, in arrays for the largest sheet.
+// The graph of a sheet's blocks, in arrays for the largest sheet. It is lent to be filled, since by value it would be copied; a run looks at its arrays as slices, so that it takes the tables of any code.
 #[derive(Drop)]
 pub struct Graph {
     // The lower and the upper of each block, by key.

@@ -1,9 +1,11 @@
 // The keys of the blocks: blocks by offset, at each the successors take keys first, then the block. Assumes nothing.
-ghost use Rattle.std.specs.Prelude.{◌≡◌, [], ◌∷◌, ◌++◌, ◌<◌, ◌≤◌, length, take};
+ghost use Rattle.std.specs.Prelude.{◌≡◌, List, [], ◌∷◌, ◌++◌, map, ◌<◌, ◌≤◌, length};
 ghost use Rattle.base.specs.Lists.{firsts};
 ghost use Rattle.base.specs.Sizes.{max_instructions};
+ghost use Rattle.stackless_bytecode.specs.declared.Bytecode.{Bytecode};
+ghost use Rattle.stackless_bytecode.specs.Sound.{Sound};
 ghost use Rattle.sheet.specs.Code.{code_in};
-ghost use Rattle.stackless_control_flow_graph.specs.Arrays.{offsets_of, Within, BlocksFound, next_keys};
+ghost use Rattle.stackless_control_flow_graph.specs.Arrays.{offsets_of, Within, key_in, next_keys};
 ghost use Rattle.stackless_control_flow_graph.specs.Blocks.{Start, blocks_of, keyed, key_of};
 ghost use Rattle.stackless_control_flow_graph.specs.Graph.{OffsetKeys};
 
@@ -11,61 +13,96 @@ use crate::Successors;
 use crate::blocks::{BlockArrays, Blocks};
 use base::MAX_INSTRUCTIONS;
 use base::numbering::Numbering;
-use sheet::accepted::AcceptedSheet;
+use sheet::accepted::ResolvedSheet;
 
 // The key of the dummy exit; that of the dummy entrance is 0.
 pub const EXIT_KEY: u16 = 1;
 
-// The first key of a block: the others follow in the order of the numbers.
-const FIRST_KEY: u16 = 2;
+// The first key of a block: the others follow in the order of first mention.
+pub const FIRST_KEY: usize = 2;
 
-// Numbers for the block from l on: its successors first, then the block.
+// Keys for the block from l on: its successors first, then the block.
 #[tactic(auto, using(crate::specs::NextLaws::one_below, crate::specs::NextLaws::two_below))]
-fn give_block(numbers: &mut Numbering<MAX_INSTRUCTIONS>, next: Successors, l: u16)
-    requires { (l < max_instructions) × Within max_instructions (offsets_of next) }
-    ensures { numbers.new ≡ firsts numbers.old (offsets_of next ++ (l ∷ [])) }
+fn give_block(keys: &mut Numbering<FIRST_KEY, MAX_INSTRUCTIONS>, next: Successors, l: u16)
+    requires lower { l < max_instructions }
+    requires within { Within max_instructions (offsets_of next) }
+    ensures { keys.new ≡ firsts keys.old (offsets_of next ++ (l ∷ [])) }
 {
     match next {
         Successors::None => {}
-        Successors::One(a) => numbers.give(a),
+        Successors::One(a) => keys.give(usize::from(a)),
         Successors::Two(a, b) => {
-            numbers.give(a);
-            numbers.give(b);
+            keys.give(usize::from(a));
+            keys.give(usize::from(b));
         }
     }
-    numbers.give(l);
+    keys.give(usize::from(l));
 }
 
-// Numbers for all blocks: blocks by offset, at each its successors, then the block.
-fn give_all(numbers: &mut Numbering<MAX_INSTRUCTIONS>, blocks: Blocks<'_>)
-    requires { numbers.old ≡ [] }
-    ensures { numbers.new ≡ keyed (code_in blocks.entry.sheet) }
+// Keys for all blocks: blocks by offset, at each its successors, then the block.
+fn give_all(keys: &mut Numbering<FIRST_KEY, MAX_INSTRUCTIONS>, blocks: Blocks<'_>)
+    requires { keys.old ≡ [] }
+    ensures { keys.new ≡ keyed (code_in blocks.entry.sheet) }
 {
     for &lower in blocks.lowers() {
-        give_block(numbers, blocks.next(lower), lower);
+        give_block(keys, blocks.next(lower), lower);
     }
 }
 
-// The blocks of a sheet, and their numbers in the order of their keys.
-pub fn find_keys(
-    sheet: AcceptedSheet<'_>,
-    arrays: &mut BlockArrays,
-    numbers: &mut Numbering<MAX_INSTRUCTIONS>,
-)
-    requires { numbers.old ≡ [] }
-    ensures found { BlocksFound (code_in sheet.entry) arrays.new.goes (take arrays.new.count arrays.new.lowers) arrays.new.uppers }
-    ensures keyed { numbers.new ≡ keyed (code_in sheet.entry) }
+// The keys of the blocks that start at these offsets; 0 where none does.
+pub fn keys_of<const N: usize>(keys: &Numbering<FIRST_KEY, N>, lowers: Successors) -> Successors
+    requires { Within N (offsets_of lowers) }
+    ensures { offsets_of result ≡ map (key_in keys.now) (offsets_of lowers) }
 {
-    arrays.find(sheet);
-    give_all(numbers, Blocks { sheet, arrays });
+    match lowers {
+        Successors::None => Successors::None,
+        Successors::One(a) => Successors::One(keys.number(usize::from(a)).unwrap_or(0)),
+        Successors::Two(a, b) => Successors::Two(
+            keys.number(usize::from(a)).unwrap_or(0),
+            keys.number(usize::from(b)).unwrap_or(0),
+        ),
+    }
+}
+
+// The key of the block of each of the first n offsets: an offset at which none starts takes that of the offset before.
+pub fn spread_keys<const N: usize>(
+    keys: &Numbering<FIRST_KEY, N>,
+    n: usize,
+    key_of_offset: &mut [u16],
+)
+    requires inside { n ≤ N }
+    requires room { n ≤ length key_of_offset.old }
+    ensures { (code : List Bytecode) → Sound code → length code ≡ n → keys.now ≡ keyed code → OffsetKeys code key_of_offset.new }
+{
+    let mut last = 0;
+    for k in 0..n {
+        if let Some(key) = keys.number(k) {
+            last = key;
+        }
+        key_of_offset[k] = last;
+    }
 }
 
 // The blocks of a sheet's code, and their keys.
 #[derive(Clone, Copy)]
 pub struct KeyedBlocks<'a> {
     pub by_offset: Blocks<'a>,
-    pub numbers: &'a Numbering<MAX_INSTRUCTIONS>,
-    pub ghost keyed: { numbers.now ≡ keyed (code_in by_offset.sheet) },
+    pub keys: &'a Numbering<FIRST_KEY, MAX_INSTRUCTIONS>,
+    pub ghost keyed: { keys.now ≡ keyed (code_in by_offset.sheet) },
+}
+
+// The blocks of a sheet and their keys, worked out in what is lent.
+pub fn find_keys<'a>(
+    sheet: ResolvedSheet<'a>,
+    arrays: &'a mut BlockArrays,
+    keys: &'a mut Numbering<FIRST_KEY, MAX_INSTRUCTIONS>,
+) -> KeyedBlocks<'a>
+    requires { keys.old ≡ [] }
+    ensures { result.by_offset.sheet ≡ sheet.entry }
+{
+    let by_offset = arrays.find(sheet);
+    give_all(keys, by_offset);
+    KeyedBlocks { by_offset, keys }
 }
 
 impl<'a> KeyedBlocks<'a> {
@@ -75,7 +112,7 @@ impl<'a> KeyedBlocks<'a> {
         ensures keys { result ≡ length (keyed (code_in self.entry.by_offset.sheet)) }
         ensures few { result ≤ max_instructions }
     {
-        self.numbers.order().len()
+        self.keys.order().len()
     }
 
     // The lowers in the order of their keys.
@@ -83,7 +120,7 @@ impl<'a> KeyedBlocks<'a> {
         ensures keyed { result.now ≡ keyed (code_in self.entry.by_offset.sheet) }
         ensures few { length result.now ≤ max_instructions }
     {
-        self.numbers.order()
+        self.keys.order()
     }
 
     // The key of the block from `lower` on.
@@ -92,7 +129,7 @@ impl<'a> KeyedBlocks<'a> {
         requires { Start (code_in self.by_offset.sheet) lower }
         ensures { result ≡ key_of (keyed (code_in self.entry.by_offset.sheet)) lower }
     {
-        FIRST_KEY + self.numbers.number_of(lower)
+        self.keys.number_of(lower)
     }
 
     // The keys of the blocks that the block from `lower` on goes to.
@@ -100,24 +137,6 @@ impl<'a> KeyedBlocks<'a> {
         requires { Start (code_in self.by_offset.sheet) lower }
         ensures { offsets_of result ≡ next_keys (code_in self.entry.by_offset.sheet) lower }
     {
-        match self.by_offset.next(lower) {
-            Successors::None => Successors::None,
-            Successors::One(a) => Successors::One(self.key(a)),
-            Successors::Two(a, b) => Successors::Two(self.key(a), self.key(b)),
-        }
-    }
-
-    // The key of the block of each offset: an offset that is no lower takes that of the offset before.
-    pub fn spread_keys(self, key_of_offset: &mut [u16])
-        requires { self.by_offset.sheet.count ≤ length key_of_offset.old }
-        ensures { OffsetKeys (code_in self.entry.by_offset.sheet) key_of_offset.new }
-    {
-        let mut last = 0;
-        for k in 0..self.by_offset.sheet.count {
-            if let Some(number) = self.numbers.number(k as u16) {
-                last = FIRST_KEY + number;
-            }
-            key_of_offset[k] = last;
-        }
+        keys_of(self.keys, self.by_offset.next(lower))
     }
 }

@@ -5,12 +5,13 @@ ghost use Rattle.sheet.specs.Code.{code_in};
 
 use crate::Successors;
 use crate::next::by_kind;
-use sheet::accepted::AcceptedSheet;
+use sheet::accepted::ResolvedSheet;
 
 // Blocks start at `next` and at these successors.
 #[tactic(auto, unfolding(crate::specs::Arrays::mark_all))]
 fn mark_starts(marks: &mut [bool], next: usize, e: Successors)
-    requires { (next < length marks.old) × Within (length marks.old) (offsets_of e) }
+    requires behind { next < length marks.old }
+    requires within { Within (length marks.old) (offsets_of e) }
     ensures { marks.new ≡ mark_all marks.old (next ∷ offsets_of e) }
 {
     marks[next] = true;
@@ -25,8 +26,10 @@ fn mark_starts(marks: &mut [bool], next: usize, e: Successors)
 }
 
 // The successors of offset k into their place, and the blocks that it starts.
-fn visit(sheet: AcceptedSheet<'_>, k: usize, goes: &mut [Successors], marks: &mut [bool])
-    requires { (k < sheet.count) × (sheet.count ≤ length goes.old) × (sheet.count < length marks.old) }
+fn visit(sheet: ResolvedSheet<'_>, k: usize, goes: &mut [Successors], marks: &mut [bool])
+    requires inside { k < sheet.count }
+    requires goes { sheet.count ≤ length goes.old }
+    requires marks { sheet.count < length marks.old }
     ensures { Visits (code_in sheet.entry) k goes.old marks.old goes.new marks.new }
 {
     let r = sheet.instruction(k);
@@ -42,9 +45,12 @@ fn visit(sheet: AcceptedSheet<'_>, k: usize, goes: &mut [Successors], marks: &mu
 }
 
 // The successors of every offset, and marks where a block starts: at 0, at the successors of whatever branches, and behind it.
-pub fn visit_all(sheet: AcceptedSheet<'_>, goes: &mut [Successors], marks: &mut [bool])
-    requires { (sheet.count ≤ length goes.old) × (sheet.count < length marks.old) × ((j : ℕ) → get_or marks.old j false ≡ false) }
-    ensures { SuccessorsTo (code_in sheet.entry) sheet.entry.count goes.new × Marked (code_in sheet.entry) marks.new }
+pub fn visit_all(sheet: ResolvedSheet<'_>, goes: &mut [Successors], marks: &mut [bool])
+    requires goes { sheet.count ≤ length goes.old }
+    requires marks { sheet.count < length marks.old }
+    requires unmarked { (j : ℕ) → get_or marks.old j false ≡ false }
+    ensures successors { SuccessorsTo (code_in sheet.entry) sheet.entry.count goes.new }
+    ensures marked { Marked (code_in sheet.entry) marks.new }
 {
     marks[0] = true;
     for k in 0..sheet.count {

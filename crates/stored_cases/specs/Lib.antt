@@ -1,2 +1,3 @@
 -- What the public contracts say.
 pub mod Ops
+pub mod Tallies

@@ -1,4 +1,7 @@
 // Counts of what came, and what is printed. Assumes nothing.
+ghost use Rattle.std.specs.Prelude.{◌≡◌};
+ghost use Rattle.stored_cases.specs.Tallies.{more, no_cases, differing, counted};
+
 use crate::op::Op;
 use std::io;
 
@@ -34,12 +37,16 @@ pub struct Tally {
     found: u32,
 }
 
-fn add(count: &mut u32) {
+fn add(count: &mut u32)
+    ensures { count.new ≡ more count.old }
+{
     *count = count.wrapping_add(1);
 }
 
 impl Tally {
-    pub fn new() -> Tally {
+    pub fn new() -> Tally
+        ensures { result ≡ no_cases }
+    {
         Tally {
             of_op: [0; LINES.len() + 1],
             cases: 0,
@@ -50,19 +57,25 @@ impl Tally {
     }
 
     // The file has no cases to ask.
-    pub fn damaged_file(&mut self, rt: &impl Print) -> io::Result<()> {
+    pub fn damaged_file(&mut self, rt: &impl Print) -> io::Result<()>
+        ensures { self.new ≡ differing self.old }
+    {
         add(&mut self.differences);
         println!(rt; "damaged")
     }
 
     // A line on case k that counts as a difference.
-    fn difference(&mut self, rt: &impl Print, said: &str, k: usize) -> io::Result<()> {
+    fn difference(&mut self, rt: &impl Print, said: &str, k: usize) -> io::Result<()>
+        ensures { self.new ≡ differing self.old }
+    {
         add(&mut self.differences);
         println!(rt; "{said} case {k}")
     }
 
     // What came of case k, which was asked or is damaged.
-    pub fn count(&mut self, rt: &impl Print, k: usize, came: Option<Asked>) -> io::Result<()> {
+    pub fn count(&mut self, rt: &impl Print, k: usize, came: Option<Asked>) -> io::Result<()>
+        ensures { self.new ≡ counted self.old came }
+    {
         let Some(asked) = came else {
             return self.difference(rt, "damaged", k);
         };

@@ -14,10 +14,30 @@ ghost use Rattle.livevar_transform.specs.Plan.{NewBlockRoom, BlockFits, LabelsFi
 use base::RECORD_BYTES;
 use dataflow_domains::LiveVarState;
 use livevar_transform::instructions::{destroy, mark, with_dsts, with_labels};
-use livevar_transform::plan::{Fate, Next, Plan};
+use livevar_transform::plan::{Fate, Next, Plan, past_both};
 use sheet::accepted::AcceptedSheet;
 use sheet_writer::writer::encode;
 use stackless_bytecode::{Bytecode, Kind};
+
+// A plan, and the first numbers of its new blocks, which all fit.
+#[derive(Clone, Copy)]
+pub struct NumberedPlan<'a> {
+    pub plan: Plan<'a>,
+    pub first: Next,
+    pub ghost fits: { Fitting (map mask plan.lost.now) plan.sheet.count first },
+    pub ghost low: { LowNext first },
+}
+
+// A plan at offset k, and the numbers that come next.
+#[derive(Clone, Copy)]
+struct Turn<'a> {
+    plan: Plan<'a>,
+    k: usize,
+    next: Next,
+    ghost inside: { k < plan.sheet.count },
+    ghost below: { NextBelow next_room next },
+    ghost labels: { LabelsFit (map mask plan.lost.now) k next },
+}
 
 // The label that an edge goes to: a new one where it loses references.
 fn goes_to(old: u16, lost: LiveVarState, label: u32) -> u16
@@ -30,82 +50,77 @@ fn goes_to(old: u16, lost: LiveVarState, label: u32) -> u16
     label as u16
 }
 
-// The Branch r at offset k, aimed at the labels that its edges go to, then before else.
-fn aim(plan: Plan, k: usize, next: Next, r: Bytecode) -> Bytecode
-    requires inside { k < plan.sheet.count }
-    requires below { NextBelow next_room next }
-    requires labels { LabelsFit (map mask plan.arrays.now.lost) k next }
-    ensures { result ≡ aimed_at (map mask plan.entry.arrays.now.lost) k next r }
+// The Branch r, aimed at the labels that its edges go to, then before else.
+fn aim(turn: Turn, r: Bytecode) -> Bytecode
+    ensures { result ≡ aimed_at (map mask turn.entry.plan.lost.now) turn.entry.k turn.entry.next r }
 {
-    let then = plan.lost(2 * k);
-    let other = plan.lost(2 * k + 1);
-    let one = goes_to(r.one, then, next.label);
-    let second = next.past(then);
+    let then = turn.plan.lost(2 * turn.k);
+    let other = turn.plan.lost(2 * turn.k + 1);
+    let one = goes_to(r.one, then, turn.next.label);
+    let second = turn.next.past(then);
     let two = goes_to(r.two, other, second.label);
     with_labels(r, one, two)
 }
 
-// What stands for offset k, if it is kept.
-fn stands_for(plan: Plan, k: usize, next: Next) -> Bytecode
-    requires inside { k < plan.sheet.count }
-    requires below { NextBelow next_room next }
-    requires labels { LabelsFit (map mask plan.arrays.now.lost) k next }
-    ensures { result ≡ stands_at (code_of plan.entry.sheet.bytes.now) plan.entry.arrays.now.fates (map mask plan.entry.arrays.now.lost) k next }
+// What stands for the offset, if it is kept.
+fn stands_for(turn: Turn) -> Bytecode
+    ensures { result ≡ stands_at (code_of turn.entry.plan.sheet.bytes.now) turn.entry.plan.fates.now (map mask turn.entry.plan.lost.now) turn.entry.k turn.entry.next }
 {
-    let r = plan.sheet.instruction(k);
+    let plan = turn.plan;
+    let r = plan.sheet.instruction(turn.k);
     if r.is(Kind::Branch) {
-        return aim(plan, k, next, r);
+        return aim(turn, r);
     }
-    if plan.arrays.fates[k] == Fate::Merged {
-        let a = plan.sheet.instruction(k + 1);
+    if plan.fates[turn.k] == Fate::Merged {
+        let a = plan.sheet.instruction(turn.k + 1);
         return with_dsts(r, a.dsts);
     }
     r
 }
 
-// The record of offset k at the front of `out`, if it is kept; how many that is.
-fn put_kept(plan: Plan, k: usize, next: Next, out: &mut [u8]) -> usize
-    requires inside { k < plan.sheet.count }
-    requires below { NextBelow next_room next }
-    requires labels { LabelsFit (map mask plan.arrays.now.lost) k next }
-    requires room { record_bytes ≤ length out.old }
-    ensures long { result ≡ length (kept_at (code_of plan.entry.sheet.bytes.now) plan.entry.arrays.now.fates (map mask plan.entry.arrays.now.lost) k next) }
+// The record of the offset at the front of `out`, if it is kept; how many that is, to be added up.
+fn put_kept(turn: Turn, out: &mut [u8]) -> usize
+    requires { record_bytes ≤ length out.old }
+    ensures long { result ≡ length (kept_at (code_of turn.entry.plan.sheet.bytes.now) turn.entry.plan.fates.now (map mask turn.entry.plan.lost.now) turn.entry.k turn.entry.next) }
     ensures low { result ≤ 1 }
-    ensures written { out.new ≡ placed (kept_at (code_of plan.entry.sheet.bytes.now) plan.entry.arrays.now.fates (map mask plan.entry.arrays.now.lost) k next) out.old }
+    ensures written { out.new ≡ placed (kept_at (code_of turn.entry.plan.sheet.bytes.now) turn.entry.plan.fates.now (map mask turn.entry.plan.lost.now) turn.entry.k turn.entry.next) out.old }
 {
-    if plan.arrays.fates[k] == Fate::Dropped {
+    if turn.plan.fates[turn.k] == Fate::Dropped {
         return 0;
     }
-    let r = stands_for(plan, k, next);
+    let r = stands_for(turn);
     encode(r, &mut out[0..RECORD_BYTES]);
     1
 }
 
 // All kept instructions, by offset; how many they are.
-fn put_all_kept(plan: Plan, first: Next, out: &mut [u8]) -> usize
-    requires fits { Fitting (map mask plan.arrays.now.lost) plan.sheet.count first }
-    requires low { LowNext first }
-    requires room { record_bytes * max_instructions ≤ length out.old }
-    ensures long { result ≡ length (joins plan.entry.sheet.count (kept_by (code_of plan.entry.sheet.bytes.now) plan.entry.arrays.now.fates (map mask plan.entry.arrays.now.lost) first)) }
-    ensures written { out.new ≡ placed (joins plan.entry.sheet.count (kept_by (code_of plan.entry.sheet.bytes.now) plan.entry.arrays.now.fates (map mask plan.entry.arrays.now.lost) first)) out.old }
+fn put_all_kept(numbered: NumberedPlan, out: &mut [u8]) -> usize
+    requires { record_bytes * max_instructions ≤ length out.old }
+    ensures long { result ≡ length (joins numbered.entry.plan.sheet.count (kept_by (code_of numbered.entry.plan.sheet.bytes.now) numbered.entry.plan.fates.now (map mask numbered.entry.plan.lost.now) numbered.entry.first)) }
+    ensures written { out.new ≡ placed (joins numbered.entry.plan.sheet.count (kept_by (code_of numbered.entry.plan.sheet.bytes.now) numbered.entry.plan.fates.now (map mask numbered.entry.plan.lost.now) numbered.entry.first)) out.old }
 {
-    let mut next = first;
+    let plan = numbered.plan;
+    let mut next = numbered.first;
+    // How many records are written: no index of the loop's range.
     let mut m = 0;
     for k in 0..plan.sheet.count {
         let at = RECORD_BYTES * m;
-        m += put_kept(plan, k, next, &mut out[at..]);
-        next = plan.past_both(k, next);
+        m += put_kept(Turn { plan, k, next }, &mut out[at..]);
+        next = past_both(plan.lost, k, next);
     }
     m
 }
 
 // A Destroy for each of these references, ascending, with attribute ids from `first` on.
 fn put_destroys(lost: LiveVarState, first: u32, out: &mut [u8])
-    requires { (first + ones (mask lost) ≤ max_number) × (record_bytes * ones (mask lost) ≤ length out.old) }
+    requires ids { first + ones (mask lost) ≤ max_number }
+    requires room { record_bytes * ones (mask lost) ≤ length out.old }
     ensures { out.new ≡ placed (destroys first (members max_locals (mask lost))) out.old }
 {
     let mut left = lost;
+    // How many records are written: no index of a range.
     let mut i = 0u32;
+    // The walk by trailing zeros: form by place.
     while let Some((local, rest)) = left.split_lowest() {
         let at = RECORD_BYTES * i as usize;
         encode(
@@ -152,9 +167,9 @@ fn target_of(sheet: AcceptedSheet, e: usize) -> u16
 fn put_edge(plan: Plan, e: usize, next: Next, out: &mut [u8]) -> Next
     requires inside { e < 2 * plan.sheet.count }
     requires below { NextBelow next_room next }
-    requires fits { BlockFits (lost_at (map mask plan.arrays.now.lost) e) next (length out.old) }
-    ensures next { result ≡ past next (lost_at (map mask plan.entry.arrays.now.lost) e) }
-    ensures written { out.new ≡ placed (added_at (code_of plan.entry.sheet.bytes.now) (map mask plan.entry.arrays.now.lost) e next) out.old }
+    requires fits { BlockFits (lost_at (map mask plan.lost.now) e) next (length out.old) }
+    ensures next { result ≡ past next (lost_at (map mask plan.entry.lost.now) e) }
+    ensures written { out.new ≡ placed (added_at (code_of plan.entry.sheet.bytes.now) (map mask plan.entry.lost.now) e next) out.old }
 {
     let gone = plan.lost(e);
     if gone.is_empty() {
@@ -166,12 +181,12 @@ fn put_edge(plan: Plan, e: usize, next: Next, out: &mut [u8]) -> Next
 }
 
 // All blocks, by edge.
-fn put_all_blocks(plan: Plan, first: Next, out: &mut [u8])
-    requires fits { Fitting (map mask plan.arrays.now.lost) plan.sheet.count first }
-    requires low { LowNext first }
-    requires room { record_bytes * length (joins (2 * plan.sheet.count) (added_by (code_of plan.sheet.bytes.now) (map mask plan.arrays.now.lost) first)) ≤ length out.old }
-    ensures { out.new ≡ placed (joins (2 * plan.entry.sheet.count) (added_by (code_of plan.entry.sheet.bytes.now) (map mask plan.entry.arrays.now.lost) first)) out.old }
+fn put_all_blocks(numbered: NumberedPlan, out: &mut [u8])
+    requires { record_bytes * length (joins (2 * numbered.plan.sheet.count) (added_by (code_of numbered.plan.sheet.bytes.now) (map mask numbered.plan.lost.now) numbered.first)) ≤ length out.old }
+    ensures { out.new ≡ placed (joins (2 * numbered.entry.plan.sheet.count) (added_by (code_of numbered.entry.plan.sheet.bytes.now) (map mask numbered.entry.plan.lost.now) numbered.entry.first)) out.old }
 {
+    let plan = numbered.plan;
+    let first = numbered.first;
     let mut next = first;
     for e in 0..2 * plan.sheet.count {
         let at = RECORD_BYTES * (next.attr - first.attr) as usize;
@@ -180,14 +195,12 @@ fn put_all_blocks(plan: Plan, first: Next, out: &mut [u8])
 }
 
 // The new code, record behind record at the front of `out`: the kept instructions, then the blocks.
-pub fn transform_code(plan: Plan, first: Next, out: &mut [u8])
-    requires fits { Fitting (map mask plan.arrays.now.lost) plan.sheet.count first }
-    requires low { LowNext first }
-    requires few { length (code_by (code_of plan.sheet.bytes.now) plan.arrays.now.fates (map mask plan.arrays.now.lost) plan.sheet.count first) ≤ max_instructions }
+pub fn transform_code(numbered: NumberedPlan, out: &mut [u8])
+    requires few { length (code_by (code_of numbered.plan.sheet.bytes.now) numbered.plan.fates.now (map mask numbered.plan.lost.now) numbered.plan.sheet.count numbered.first) ≤ max_instructions }
     requires room { record_bytes * max_instructions ≤ length out.old }
-    ensures { out.new ≡ placed (code_by (code_of plan.entry.sheet.bytes.now) plan.entry.arrays.now.fates (map mask plan.entry.arrays.now.lost) plan.entry.sheet.count first) out.old }
+    ensures { out.new ≡ placed (code_by (code_of numbered.entry.plan.sheet.bytes.now) numbered.entry.plan.fates.now (map mask numbered.entry.plan.lost.now) numbered.entry.plan.sheet.count numbered.entry.first) out.old }
 {
-    let m = put_all_kept(plan, first, out);
+    let m = put_all_kept(numbered, out);
     let at = RECORD_BYTES * m;
-    put_all_blocks(plan, first, &mut out[at..]);
+    put_all_blocks(numbered, &mut out[at..]);
 }

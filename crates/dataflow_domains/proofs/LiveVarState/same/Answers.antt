@@ -7,5 +7,4 @@ use Rattle.dataflow_domains.proofs.LiveVarState.same.Goals as goal
 
 pub returns : goal.returns
 unfolding mask
-returns c =
-    same_by c.args.self.livevars c.args.other.livevars _ (array _ (search rules) (λ i. search rules)) (array _ (search rules) (λ i. search rules)) (slice_eq-Decides Decides-eqb _ _ _ c.eq.ensures)
+returns c = same_by _ _ _ (search (rules, array)) (search (rules, array)) (slice_eq-Decides Decides-eqb _ _ _ c.eq.ensures)

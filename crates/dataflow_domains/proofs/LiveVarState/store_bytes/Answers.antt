@@ -16,7 +16,7 @@ pub loop-j-preserved : goal.loop-j-preserved
 loop-j-preserved c =
     let l = c.loop-j in
     let s = c.args in
-    let known : Array s.self.livevars = array _ (search rules) (λ i. search rules) in
+    let known : Array s.self.livevars = search (rules, array) in
     let next : 8 * (l.j + 1) ≡ 8 * l.j + 8 = omega arith in
     let size : length (bytes_each 8 (take l.j s.self.livevars)) ≡ 8 * l.j = each_length 8 (take l.j s.self.livevars) ∙ ap (λ (n : ℕ). 8 * n) (length-take-le l.j s.self.livevars (omega (arith, known.long))) in
     let word : c.copy_from_slice.new.self ≡ bytes_of 8 (get_or s.self.livevars l.j 0) = c.copy_from_slice.ensures.after ∙ c.to_le_bytes.ensures ∙ sym (word_bytes (get_or s.self.livevars l.j 0)) in
@@ -27,6 +27,6 @@ unfolding mask
 returns c =
     let l = c.loop-j in
     let s = c.args in
-    let known : Array s.self.livevars = array _ (search rules) (λ i. search rules) in
+    let known : Array s.self.livevars = search (rules, array) in
     let all : l.j ≡ set_words = omega arith in
     l.invariant ∙ all_bytes s.self.livevars s.out.now l.j known (search rules) all

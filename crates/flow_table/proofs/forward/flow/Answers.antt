@@ -2,7 +2,7 @@ use Rattle.std.proofs.Common.{ℕ, ◌*◌, ◌≤◌, ◌≡◌, Ok, length, ar
 use Rattle.base.specs.Refusals.{answer_of}
 use Rattle.base.specs.Sizes.{row_numbers}
 use Rattle.sheet.specs.Code.{code_in}
-use Rattle.sheet.specs.declared.accepted.AcceptedSheet.{AcceptedSheet}
+use Rattle.sheet.specs.declared.accepted.ResolvedSheet.{ResolvedSheet}
 use Rattle.stackless_control_flow_graph.specs.Blocks.{blocks_of, flow_reply}
 use Rattle.base.specs.ReplyLaws.{refuses, done_result}
 use Rattle.stackless_control_flow_graph.specs.CallLaws.{flow_short, flow_done}
@@ -16,7 +16,7 @@ returns-then-table-count-clause-result c =
     rw (← c.in_ok-sheet.ensures.accepted) (refuses c.args.table.now (flow_short sheet.bytes.now (length c.args.table.now) sheet.checked.accepted (omega (arith, t.ensures.result)))).result
 
 -- there is room for all rows
-done : (sheet : AcceptedSheet) (lent m : ℕ) → m ≡ blocks_of (code_in sheet) → row_numbers * m ≤ lent → Ok m ≡ answer_of (flow_reply sheet.bytes.now lent)
+done : (sheet : ResolvedSheet) (lent m : ℕ) → m ≡ blocks_of (code_in sheet) → row_numbers * m ≤ lent → Ok m ≡ answer_of (flow_reply sheet.bytes.now lent)
 done sheet lent m is h = done_result is (flow_done sheet.bytes.now lent sheet.checked.accepted (omega (arith, is)))
 
 pub returns-clause-result : goal.returns-clause-result

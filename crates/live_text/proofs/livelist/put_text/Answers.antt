@@ -1,4 +1,4 @@
-use Rattle.std.proofs.Common.{arith, ap, ◌∙◌}
+use Rattle.std.proofs.Common.{arith, sym, ap, ◌∙◌}
 use Rattle.listing.specs.Lines.{livelist}
 use Rattle.listing.specs.WriterLaws.{text_as}
 use Rattle.listing.specs.TextLaws.{livelist_live, livelist_refused}
@@ -7,11 +7,13 @@ use Rattle.live_text.proofs.livelist.put_text.Goals as goal
 pub analyze-taken-requires : goal.analyze-taken-requires
 analyze-taken-requires c = let sheet = c.in-Ok.sheet in omega (arith, sheet.size, sheet.few)
 
-pub put_live-requires : goal.put_live-requires
-put_live-requires c = let sheet = c.in-Ok.sheet in (sheet.few, omega (arith, sheet.few, c.analyze-taken.auto.out))
+pub put_live-requires-clause-enough : goal.put_live-requires-clause-enough
+put_live-requires-clause-enough c = let sheet = c.in-Ok.sheet in omega (arith, sheet.few, c.analyze-taken.auto.out)
 
 pub returns-in-Err : goal.returns-in-Err
 returns-in-Err c = text_as _ (livelist_refused _ _ c.in-Err.ensures.refused) c.put_refused.ensures
 
 pub returns-in-Ok : goal.returns-in-Ok
-returns-in-Ok c = text_as _ (livelist_live c.in-Ok.sheet _ _ _ c.analyze-taken.ensures ∙ ap livelist c.in-Ok.ensures.accepted) c.put_live.ensures
+returns-in-Ok c =
+    let sheet = c.in-Ok.sheet in
+    text_as _ (livelist_live sheet.bytes.now sheet.count _ _ _ sheet.checked.accepted (sym sheet.size) c.analyze-taken.ensures ∙ ap livelist c.in-Ok.ensures.accepted) c.put_live.ensures

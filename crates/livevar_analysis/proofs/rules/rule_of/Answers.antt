@@ -1,12 +1,22 @@
-use Rattle.std.proofs.Common.{sym, ◌∙◌, arith}
-use Rattle.livevar_analysis.specs.DecodeLaws.{decoded_assign, decoded_load, decoded_sources, none_is}
+use Rattle.std.proofs.Common.{sym, ap, ◌∙◌, arith}
+use Rattle.dataflow_domains.specs.Mask.{set_of}
+use Rattle.stackless_bytecode.specs.Kinds.{srcs_of}
+use Rattle.livevar_analysis.specs.DecodeLaws.{listed, decoded_assign, decoded_load, decoded_sources, none_is}
 use Rattle.livevar_analysis.proofs.rules.rule_of.Goals as goal
 
+pub set_of-requires : goal.set_of-requires
+unfolding srcs_of
+set_of-requires c = listed c.requires.srcs c.sources.ensures
+
+pub set_of-requires-in-2 : goal.set_of-requires-in-2
+unfolding srcs_of
+set_of-requires-in-2 c = listed c.requires.srcs c.sources-in-2.ensures
+
 pub returns-in-0 : goal.returns-in-0
-returns-in-0 c m = decoded_assign _ _ _ m c.in-0.is c.single.ensures c.set_of.ensures
+returns-in-0 c m = decoded_assign _ _ _ m c.in-0.is c.single.ensures (c.set_of.ensures ∙ ap set_of c.sources.ensures)
 
 pub returns-in-2 : goal.returns-in-2
-returns-in-2 c m = decoded_sources _ _ _ m c.in-2.is c.empty.ensures c.set_of-in-2.ensures
+returns-in-2 c m = decoded_sources _ _ _ m c.in-2.is c.empty.ensures (c.set_of-in-2.ensures ∙ ap set_of c.sources-in-2.ensures)
 
 pub returns-in-3 : goal.returns-in-3
 returns-in-3 c m = decoded_load _ _ _ m c.in-3.is c.single-in-3.ensures c.empty-in-3.ensures

@@ -1,6 +1,6 @@
 use Rattle.std.proofs.Common.{◌≡◌, ℕ, ◌+◌, ◌-◌, ◌≤◌, ◌<◌, length, get_or, arith}
 use Rattle.base.specs.ListLaws.{length_tab, get_d_tab}
-use Rattle.livevar_analysis.specs.EngineLaws.{hand_none, hand_room, hand_more, hand_all}
+use Rattle.livevar_analysis.specs.EngineLaws.{hand_none, hand_set, hand_room, hand_more, hand_all}
 use Rattle.livevar_engine.proofs.engine.hand_all.Goals as goal
 use Rattle.livevar_engine.proofs.engine.hand_all.Invariants.{blocks}
 
@@ -12,6 +12,11 @@ block_at n k h l = let inside : k - 2 < n - 2 = omega arith in omega (arith, get
 
 pub loop-k-init : goal.loop-k-init
 loop-k-init c = hand_none _ _ _ c.requires.hands
+
+pub receive-requires-clause-set_inside : goal.receive-requires-clause-set_inside
+receive-requires-clause-set_inside c =
+    let l = c.loop-k in
+    hand_set _ _ _ c.requires.hands _ _ l.invariant (more _ l.k l.auto.k c.loop-k-test.true) _ (block_at _ l.k l.auto.k c.loop-k-test.true)
 
 pub receive-requires-clause-room : goal.receive-requires-clause-room
 receive-requires-clause-room c =

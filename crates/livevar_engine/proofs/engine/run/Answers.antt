@@ -7,6 +7,9 @@ use Rattle.livevar_engine.proofs.engine.run.Goals as goal
 pub loop-k-init : goal.loop-k-init
 loop-k-init c = held_begin _ _ c.requires
 
+pub take-requires : goal.take-requires
+take-requires c = c.loop-k.invariant.list_fits
+
 pub out_of-m-requires : goal.out_of-m-requires
 out_of-m-requires c = held_out _ _ c.requires _ c.loop-k.invariant _ _ c.in-Some.ensures.some
 
@@ -21,9 +24,10 @@ loop-k-smaller c =
     let w₁ = c.take.new.self in
     let w₂ = c.hand_key.new.list in
     let more = held_more _ _ c.requires _ c.loop-k.invariant _ w₁ c.in-Some.ensures.some _ c.out_of-m.ensures w₂ c.hand_key.ensures in
-    omega (arith, held_head _ _ c.requires _ c.loop-k.invariant _ w₁ c.in-Some.ensures.some _ c.out_of-m.ensures w₂ c.hand_key.ensures, more.same.queue_long, w₂.fits)
+    omega (arith, held_head _ _ c.requires _ c.loop-k.invariant _ w₁ c.in-Some.ensures.some _ c.out_of-m.ensures w₂ c.hand_key.ensures, more.same.queue_long, more.list_fits)
 
 pub returns : goal.returns
 returns c =
     let ended : Ended c.loop-k.list c.take.new.self = search rules in
-    record { same = same_then c.loop-k.invariant.same ended.same; solved = λ code locals begun. held_done _ _ c.requires _ _ c.loop-k.invariant ended code locals begun }
+    let held = c.loop-k.invariant in
+    record { same = same_then held.same ended.same; fits = omega (arith, held.list_fits, ended.same_end, ended.same.queue_long); solved = λ code locals begun. held_done _ _ c.requires _ _ c.loop-k.invariant ended code locals begun }

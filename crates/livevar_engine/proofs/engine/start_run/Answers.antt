@@ -11,7 +11,7 @@ run-requires c =
 pub overflow_cast-result : goal.overflow_cast-result
 overflow_cast-result c =
     let w = c.run.new.list in
-    let low : w.cursor.head ≤ max_taken = omega (arith, w.fits, c.run.ensures.same.queue_long, c.put-cursor.auto.q, c.requires.input.list_long) in
+    let low : w.cursor.head ≤ max_taken = omega (arith, c.run.ensures.fits, c.run.ensures.same.queue_long, c.put-cursor.auto.q, c.requires.input.list_long) in
     search rules
 
 pub returns : goal.returns

@@ -8,4 +8,4 @@ use Rattle.livevar_output.proofs.output.write_info.Given as goal
 
 abbrev pub invariant-loop-k : goal.invariant-loop-k
 invariant-loop-k l =
-    (code : List Bytecode) (ms : List ℕ) → l.n ≡ length code → Ruled code l.rules → Blocked code ms l.keys l.sets → InfoWritten code ms l.initial.out l.k (mask l.m) l.out
+    (code : List Bytecode) (ms : List ℕ) → length l.keys ≡ length code → Ruled code l.rules → Blocked code ms l.keys l.sets → InfoWritten code ms l.initial.out l.k (mask l.m) l.out

@@ -6,8 +6,8 @@ use Rattle.page_tables.proofs.labels.put_labels.Goals as goal
 
 pub loop-k-preserved : goal.loop-k-preserved
 loop-k-preserved c =
-    let put = label_put _ _ c.requires.0 c.loop-k.k (omega (arith, c.args.sheet.size)) _ c.instruction-r.ensures in
-    let skip = label_skip _ _ c.requires.0 c.loop-k.k (omega (arith, c.args.sheet.size)) _ c.instruction-r.ensures in
+    let put = label_put _ _ c.requires c.loop-k.k (omega (arith, c.args.sheet.size)) _ c.instruction-r.ensures in
+    let skip = label_skip _ _ c.requires c.loop-k.k (omega (arith, c.args.sheet.size)) _ c.instruction-r.ensures in
     grind (arith, common_steps, texts)
 
 pub returns : goal.returns

@@ -6,11 +6,14 @@ use Rattle.sheet.specs.ValidLaws.{accepted_valid}
 use Rattle.sheet_writer.specs.SheetLaws.{few_blocks, blank_holds}
 use Rattle.rewrite.proofs.rewrite.write_new.Goals as goal
 
-pub write_sheet-requires : goal.write_sheet-requires
-write_sheet-requires c =
-    let p = c.requires in
-    let blocks = few_blocks c.args.m p.few in
-    (omega (arith, (accepted_valid _ c.args.plan.sheet.checked.accepted).size), p.few, omega (arith, blocks, c.transform_code.auto.out, length-replicate {A = ℕ} (body_bytes * (max_blocks - 1)) 0), omega (arith, p.room, blocks))
+pub write_sheet-requires-clause-heading : goal.write_sheet-requires-clause-heading
+write_sheet-requires-clause-heading c = omega (arith, (accepted_valid _ c.args.numbered.plan.sheet.accepted).size)
+
+pub write_sheet-requires-clause-records : goal.write_sheet-requires-clause-records
+write_sheet-requires-clause-records c = omega (arith, few_blocks c.args.m c.requires.few, c.transform_code.auto.out, length-replicate {A = ℕ} (body_bytes * (max_blocks - 1)) 0)
+
+pub write_sheet-requires-clause-room : goal.write_sheet-requires-clause-room
+write_sheet-requires-clause-room c = omega (arith, c.requires.room, few_blocks c.args.m c.requires.few)
 
 pub returns : goal.returns
 returns c =

@@ -21,23 +21,23 @@ module _ {s : List ℕ} {n : ℕ} (shaped : Shaped s n) (b m blocks : ℕ) (turn
 pub slice_bounds-first_in-end : goal.slice_bounds-first_in-end
 unfolding record_blocks
 slice_bounds-first_in-end g c =
-    let inside : block_bytes * (1 + c.loop-b.b) + block_bytes ≤ length c.args.s.now = omega (arith, c.requires.size, c.loop-b-test.true, c.div_ceil-b-end.ensures) in
+    let inside : block_bytes * (1 + c.loop-b.b) + block_bytes ≤ length c.args.sheet.bytes.now = omega (arith, c.args.sheet.shaped.size, c.loop-b-test.true, c.div_ceil-b-end.ensures) in
     let h = inside in search rules
 
 pub first_in-requires-clause-lists : goal.first_in-requires-clause-lists
-first_in-requires-clause-lists g c = lists_here c.requires c.loop-b.b c.min-m.result _ c.loop-b-test.true c.div_ceil-b-end.ensures c.min-m.ensures
+first_in-requires-clause-lists g c = lists_here c.args.sheet.shaped c.loop-b.b c.min-m.result _ c.loop-b-test.true c.div_ceil-b-end.ensures c.min-m.ensures
 
 pub returns-in-Some-clause-first : goal.returns-in-Some-clause-first
 returns-in-Some-clause-first g c =
     let test = g.T.RecordTest.test c.args.test.now in
-    let same = here c.requires c.loop-b.b c.min-m.result _ c.loop-b-test.true c.div_ceil-b-end.ensures c.min-m.ensures in
-    found_on _ _ _ _ (λ k l h. ap test (same k l h)) (λ j h. c.loop-b.invariant j h (omega (arith, c.loop-b-test.true, c.div_ceil-b-end.ensures))) c.args.n c.in-Some.k (omega (arith, c.loop-b-test.true, c.div_ceil-b-end.ensures, c.min-m.ensures)) c.in-Some.ensures
+    let same = here c.args.sheet.shaped c.loop-b.b c.min-m.result _ c.loop-b-test.true c.div_ceil-b-end.ensures c.min-m.ensures in
+    found_on _ _ _ _ (λ k l h. ap test (same k l h)) (λ j h. c.loop-b.invariant j h (omega (arith, c.loop-b-test.true, c.div_ceil-b-end.ensures))) c.args.sheet.count c.in-Some.k (omega (arith, c.loop-b-test.true, c.div_ceil-b-end.ensures, c.min-m.ensures)) c.in-Some.ensures
 
 pub loop-b-preserved : goal.loop-b-preserved
 loop-b-preserved g c =
     let test = g.T.RecordTest.test c.args.test.now in
-    let same = here c.requires c.loop-b.b c.min-m.result _ c.loop-b-test.true c.div_ceil-b-end.ensures c.min-m.ensures in
-    λ j h i. none_on _ _ (λ k. test (at (code_of c.args.s.now) k)) _ (λ k l h. ap test (same k l h)) (λ j h. c.loop-b.invariant j h (omega (arith, c.loop-b-test.true, c.div_ceil-b-end.ensures))) c.in_default.ensures j (omega (arith, c.min-m.ensures, h, i))
+    let same = here c.args.sheet.shaped c.loop-b.b c.min-m.result _ c.loop-b-test.true c.div_ceil-b-end.ensures c.min-m.ensures in
+    λ j h i. none_on _ _ (λ k. test (at (code_of c.args.sheet.bytes.now) k)) _ (λ k l h. ap test (same k l h)) (λ j h. c.loop-b.invariant j h (omega (arith, c.loop-b-test.true, c.div_ceil-b-end.ensures))) c.in_default.ensures j (omega (arith, c.min-m.ensures, h, i))
 
 pub returns-clause-first : goal.returns-clause-first
-returns-clause-first g c = finds_first c.args.n _ None (λ j l h. c.loop-b.invariant j (omega (arith, c.div_ceil-b-end.ensures)) h)
+returns-clause-first g c = finds_first c.args.sheet.count _ None (λ j l h. c.loop-b.invariant j (omega (arith, c.div_ceil-b-end.ensures)) h)

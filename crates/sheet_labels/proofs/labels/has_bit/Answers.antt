@@ -5,4 +5,4 @@ use Rattle.sheet_labels.proofs.labels.has_bit.Goals as goal
 
 pub returns : goal.returns
 unfolding holds bit
-returns c = let a = c.args in ap (λ (x : ℕ). eqb x 1) (and_mask (get_or a.seen.now (a.l / 64) 0 / 2 ^ (a.l % 64)) 1)
+returns c = let a = c.args in rw (← c.from-at.ensures) (ap (λ (x : ℕ). eqb x 1) (and_mask (get_or a.seen.now c.from-at.result 0 / 2 ^ (a.l % 64)) 1))

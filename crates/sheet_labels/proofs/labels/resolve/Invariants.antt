@@ -11,7 +11,7 @@ abbrev pub decreases-loop-j : goal.decreases-loop-j
 decreases-loop-j l = length l.labels - l.j
 
 abbrev pub invariant-outer : goal.invariant-outer
-invariant-outer l = Slots (code_of l.s) l.n l.initial.targets l.targets l.e
+invariant-outer l = Slots (code_of l.sheet.bytes.now) l.sheet.count l.initial.targets l.targets l.e
 
 abbrev pub decreases-outer : goal.decreases-outer
-decreases-outer l = 2 * l.n - l.e
+decreases-outer l = 2 * l.sheet.count - l.e

@@ -1,4 +1,4 @@
-use Rattle.std.proofs.Common.{◌≡◌, ◌-◌, ◌≤◌, length}
+use Rattle.std.proofs.Common.{◌≡◌, length}
 use Rattle.sheet_writer.specs.Written.{Blocks}
 use Rattle.sheet_writer.proofs.whole.put_all_later.Given as goal
 

@@ -10,8 +10,8 @@ loop-lower-init c = rw c.requires (keys_begin _)
 pub next-requires : goal.next-requires
 next-requires c = (lower_in _ _ _ c.lowers-lower-items.ensures.lowers c.loop-lower-test.true).inside
 
-pub give_block-requires : goal.give_block-requires
-give_block-requires c = let s = lower_in _ _ _ c.lowers-lower-items.ensures.lowers c.loop-lower-test.true in (omega (arith, s.inside), c.next.ensures.within)
+pub give_block-requires-clause-lower : goal.give_block-requires-clause-lower
+give_block-requires-clause-lower c = omega (arith, (lower_in _ _ _ c.lowers-lower-items.ensures.lowers c.loop-lower-test.true).inside)
 
 pub loop-lower-preserved : goal.loop-lower-preserved
 loop-lower-preserved c =
@@ -19,7 +19,7 @@ loop-lower-preserved c =
     let is = c.lowers-lower-items.ensures.lowers in
     let l = get_or c.lowers-lower-items.result.now i 0 in
     keys_more _ i l (omega (arith, ap length is)) (ap (λ (xs : List ℕ). get_or xs i 0) is) c.loop-lower.invariant
-    (c.give_block.ensures ∙ ap (λ (xs : List ℕ). firsts (c.loop-lower.numbers) (xs ++ (l ∷ []))) c.next.ensures.next)
+    (c.give_block.ensures ∙ ap (λ (xs : List ℕ). firsts (c.loop-lower.keys) (xs ++ (l ∷ []))) c.next.ensures.next)
 
 pub returns : goal.returns
 returns c = keys_end _ _ (omega (arith, ap length c.lowers-lower-items.ensures.lowers)) c.loop-lower.invariant

@@ -8,7 +8,7 @@ unfolding firsts
 returns c =
     c.give-2.ensures
     ∙ elim c.match-next.branch [
-      | in-None w ↦ rw (w.numbers-is, w.in-None.is)
-      | in-One w ↦ rw (w.numbers-is, w.give.ensures, w.in-One.is)
-      | in-Two w ↦ rw (w.numbers-is, w.give-in-Two-2.ensures, w.give-in-Two.ensures, w.in-Two.is)
+      | in-None w ↦ rw (c.from-2.ensures, w.keys-is, w.in-None.is)
+      | in-One w ↦ rw (c.from-2.ensures, w.keys-is, w.give.ensures, w.from.ensures, w.in-One.is)
+      | in-Two w ↦ rw (c.from-2.ensures, w.keys-is, w.give-in-Two-2.ensures, w.give-in-Two.ensures, w.from-in-Two.ensures, w.from-in-Two-2.ensures, w.in-Two.is)
     ]

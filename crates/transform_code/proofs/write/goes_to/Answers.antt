@@ -10,8 +10,8 @@ returns-then-is_empty c = goes_old _ _ _ (eqb-true _ 0 (sym c.is_empty.ensures �
 
 pub overflow_cast-result : goal.overflow_cast-result
 overflow_cast-result c =
-    omega (arith, c.requires (some_lost _ (eqb-false _ 0 (sym c.is_empty.ensures ∙ c.if-is_empty.false)) (mask_small c.args.lost (array _ (search rules) (λ i. search rules)))))
+    omega (arith, c.requires (some_lost _ (eqb-false _ 0 (sym c.is_empty.ensures ∙ c.if-is_empty.false)) (mask_small c.args.lost (search (rules, array)))))
 
 pub returns : goal.returns
 returns c =
-    goes_new _ _ _ (eqb-false _ 0 (sym c.is_empty.ensures ∙ c.if-is_empty.false)) (mask_small c.args.lost (array _ (search rules) (λ i. search rules)))
+    goes_new _ _ _ (eqb-false _ 0 (sym c.is_empty.ensures ∙ c.if-is_empty.false)) (mask_small c.args.lost (search (rules, array)))

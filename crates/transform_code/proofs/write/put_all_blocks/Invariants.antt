@@ -9,5 +9,5 @@ use Rattle.transform_code.proofs.write.put_all_blocks.Given as goal
 abbrev pub invariant-loop-e : goal.invariant-loop-e
 invariant-loop-e l =
     let p = l.plan in
-    let lost = map mask p.arrays.now.lost in
+    let lost = map mask p.lost.now in
     (length l.out ≡ length l.initial.out) × (l.out ≡ placed (joins l.e (added_by (code_of p.sheet.bytes.now) lost l.first)) l.initial.out) × (l.next ≡ numbers_at l.first lost l.e)

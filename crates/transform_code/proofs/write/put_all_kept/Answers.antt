@@ -8,17 +8,17 @@ use Rattle.transform_code.proofs.write.put_all_kept.Goals as goal
 pub loop-k-init : goal.loop-k-init
 loop-k-init c = (omega arith, refl, joins_none _, pieces_none _ _, numbers_first _ _)
 
-pub put_kept-m-requires-clause-below : goal.put_kept-m-requires-clause-below
-put_kept-m-requires-clause-below c = numbers_small _ _ _ _ c.requires.low (omega (arith, c.args.plan.sheet.few)) c.loop-k.invariant.4
+pub invariant_of-put_kept-clause-below : goal.invariant_of-put_kept-clause-below
+invariant_of-put_kept-clause-below c = numbers_small _ _ _ _ c.args.numbered.low (omega (arith, c.args.numbered.plan.sheet.few)) c.loop-k.invariant.4
 
-pub put_kept-m-requires-clause-labels : goal.put_kept-m-requires-clause-labels
-put_kept-m-requires-clause-labels c = labels_fit _ _ _ _ _ c.requires.fits (omega arith) c.loop-k.invariant.4
+pub invariant_of-put_kept-clause-labels : goal.invariant_of-put_kept-clause-labels
+invariant_of-put_kept-clause-labels c = labels_fit _ _ _ _ _ c.args.numbered.fits (omega arith) c.loop-k.invariant.4
 
-pub put_kept-m-requires-clause-room : goal.put_kept-m-requires-clause-room
-put_kept-m-requires-clause-room c = rw (tail_is) (omega (arith, c.args.plan.sheet.few, length-drop (record_bytes * c.loop-k.m) c.loop-k.out))
+pub put_kept-m-requires : goal.put_kept-m-requires
+put_kept-m-requires c = rw (tail_is) (omega (arith, c.args.numbered.plan.sheet.few, length-drop (record_bytes * c.loop-k.m) c.loop-k.out))
 
 pub past_both-next-requires-clause-below : goal.past_both-next-requires-clause-below
-past_both-next-requires-clause-below c = numbers_small _ _ _ _ c.requires.low (omega (arith, c.args.plan.sheet.few)) c.loop-k.invariant.4
+past_both-next-requires-clause-below c = numbers_small _ _ _ _ c.args.numbered.low (omega (arith, c.args.numbered.plan.sheet.few)) c.loop-k.invariant.4
 
 pub loop-k-preserved : goal.loop-k-preserved
 loop-k-preserved c =

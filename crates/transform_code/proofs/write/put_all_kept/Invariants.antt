@@ -9,5 +9,5 @@ use Rattle.transform_code.proofs.write.put_all_kept.Given as goal
 abbrev pub invariant-loop-k : goal.invariant-loop-k
 invariant-loop-k l =
     let p = l.plan in
-    let kept = kept_by (code_of p.sheet.bytes.now) p.arrays.now.fates (map mask p.arrays.now.lost) l.initial.next in
-    (l.m ≤ l.k) × (length l.out ≡ length l.initial.out) × (l.m ≡ length (joins l.k kept)) × (l.out ≡ placed (joins l.k kept) l.initial.out) × (l.next ≡ numbers_at l.initial.next (map mask p.arrays.now.lost) (2 * l.k))
+    let kept = kept_by (code_of p.sheet.bytes.now) p.fates.now (map mask p.lost.now) l.initial.next in
+    (l.m ≤ l.k) × (length l.out ≡ length l.initial.out) × (l.m ≡ length (joins l.k kept)) × (l.out ≡ placed (joins l.k kept) l.initial.out) × (l.next ≡ numbers_at l.initial.next (map mask p.lost.now) (2 * l.k))

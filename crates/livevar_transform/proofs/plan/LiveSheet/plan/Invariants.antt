@@ -1,4 +1,4 @@
-use Rattle.std.proofs.Common.{◌≡◌, map}
+use Rattle.std.proofs.Common.{◌≡◌, ◌≤◌, ◌*◌, length, map}
 use Rattle.dataflow_domains.specs.Sets.{mask}
 use Rattle.sheet.specs.Layout.{code_of}
 use Rattle.livevar_analysis.specs.Analysis.{infos_of}
@@ -8,4 +8,6 @@ use Rattle.livevar_transform.proofs.plan.LiveSheet.plan.Given as goal
 abbrev pub invariant-loop-k : goal.invariant-loop-k
 invariant-loop-k l =
     (l.behind ≡ is_behind (code_of l.self.sheet.bytes.now) (infos_of l.self.sheet.count l.self.info.now) l.k)
-    × Planned (code_of l.self.sheet.bytes.now) (infos_of l.self.sheet.count l.self.info.now) (mask l.refs) l.arrays.fates (map mask l.arrays.lost) l.k
+    × Planned (code_of l.self.sheet.bytes.now) (infos_of l.self.sheet.count l.self.info.now) (mask l.refs) l.fates (map mask l.lost) l.k
+    × (l.self.sheet.count ≤ length l.fates)
+    × (2 * l.self.sheet.count ≤ length l.lost)

@@ -11,11 +11,11 @@ returns-then-is_empty c = past_none _ _ (eqb-true _ 0 (sym c.is_empty.ensures �
 
 pub overflow_add-result-2 : goal.overflow_add-result-2
 overflow_add-result-2 c =
-    omega (arith, c.requires.attr, c.ones.ensures, ones_bound max_locals _ (mask_small c.args.lost (array _ (search rules) (λ i. search rules))))
+    omega (arith, c.requires.attr, c.ones.ensures, ones_bound max_locals _ (mask_small c.args.lost (search (rules, array))))
 
 pub overflow_add-result-3 : goal.overflow_add-result-3
 overflow_add-result-3 c =
-    omega (arith, c.requires.attr, c.ones.ensures, ones_bound max_locals _ (mask_small c.args.lost (array _ (search rules) (λ i. search rules))))
+    omega (arith, c.requires.attr, c.ones.ensures, ones_bound max_locals _ (mask_small c.args.lost (search (rules, array))))
 
 pub returns : goal.returns
-returns c = let m = mask_small c.args.lost (array _ (search rules) (λ i. search rules)) in past_some _ _ _ _ _ (eqb-false _ 0 (sym c.is_empty.ensures ∙ c.if-is_empty.false)) m c.ones.ensures refl refl
+returns c = let m = mask_small c.args.lost (search (rules, array)) in past_some _ _ _ _ _ (eqb-false _ 0 (sym c.is_empty.ensures ∙ c.if-is_empty.false)) m c.ones.ensures refl refl

@@ -3,4 +3,4 @@ use Rattle.dataflow_domains.specs.SetLaws.{mask_in}
 use Rattle.livevar_transform.proofs.plan.Plan.lost.Goals as goal
 
 pub returns : goal.returns
-returns c = mask_in c.args.self.arrays.now.lost c.args.e _ refl
+returns c = mask_in c.args.self.lost.now c.args.e _ refl

@@ -1,6 +1,0 @@
-use Rattle.std.proofs.Common.{◌∙◌}
-use Rattle.base.specs.ByteLaws.{le_bytes_4}
-use Rattle.sheet_writer.proofs.writer.put_u32.Goals as goal
-
-pub returns : goal.returns
-returns c = c.copy_from_slice.ensures.after ∙ c.to_le_bytes.ensures ∙ le_bytes_4 c.args.x
