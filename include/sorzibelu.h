@@ -13,8 +13,8 @@
  * Stack. The calls allocate nothing and keep nothing between calls, so that threads may call them at the same time; their arrays are on the stack.
  * A thread of SORZIBELU_STACK_BYTES is enough for every call but sorzibelu_page, which needs SORZIBELU_PAGE_STACK_BYTES:
  *
- *     check 16.1 KiB   flow 19.3 KiB   live 187.5 KiB   live_class 187.6 KiB   rewrite 203.6 KiB   renumber 49.6 KiB   label 16.2 KiB
- *     livelist 203.6 KiB   page 239.6 KiB   in_use, conditional, dying about 1 KiB
+ *     check 16.1 KiB   flow 19.4 KiB   live 187.7 KiB   live_class 187.8 KiB   rewrite 203.7 KiB   renumber 49.7 KiB   label 16.2 KiB
+ *     livelist 203.7 KiB   page 239.8 KiB   in_use, conditional, dying about 1 KiB
  */
 #ifndef SORZIBELU_H
 #define SORZIBELU_H

@@ -27,7 +27,7 @@
 //!
 //! | check | flow | live | live class | rewrite | renumber | label | livelist | page | in use, conditional, dying |
 //! |---|---|---|---|---|---|---|---|---|---|
-//! | 16.1 KiB | 19.3 KiB | 187.5 KiB | 187.6 KiB | 203.6 KiB | 49.6 KiB | 16.2 KiB | 203.6 KiB | 239.6 KiB | about 1 KiB |
+//! | 16.1 KiB | 19.4 KiB | 187.7 KiB | 187.8 KiB | 203.7 KiB | 49.7 KiB | 16.2 KiB | 203.7 KiB | 239.8 KiB | about 1 KiB |
 #![warn(missing_docs)]
 mod calls;
 mod ffi;
