@@ -17,14 +17,14 @@ fn show(rt: &impl Print, sheet: &[u8]) -> io::Result<()> {
     rt.write_all(&text[..m])
 }
 
-// The next sheet, or what there is of it and of the room; false where the input has ended.
+// The next sheet, or what there is of it and of the room; false where the input has ended. Its length is in the first two of the four bytes: no sheet needs the others.
 fn next(rt: &HostRuntime) -> io::Result<bool> {
     let mut head = [0u8; 4];
     if read_input(&mut rt.stdin(), &mut head)? < 4 {
         return Ok(false);
     }
     let mut sheet = [0u8; READ_BYTES];
-    let long = READ_BYTES.min(u32::from_le_bytes(head) as usize);
+    let long = READ_BYTES.min(usize::from(u16::from_le_bytes([head[0], head[1]])));
     let n = read_input(&mut rt.stdin(), &mut sheet[..long])?;
     show(rt, &sheet[..n])?;
     Ok(true)
