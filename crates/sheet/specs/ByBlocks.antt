@@ -1,5 +1,5 @@
 -- A search over the instructions of a sheet in shape, block by block: any test of an instruction. Assumes nothing.
-use Rattle.std.specs.Prelude.{Bool, Option, true, false, ◌≡◌, ◌⊎◌, List, ℕ, ◌+◌, ◌-◌, ◌*◌, ◌≤◌, ◌<◌, take, drop, None, Some}
+use Rattle.std.specs.Prelude.{Bool, Option, true, false, ◌≡◌, ◌⊎◌, List, ℕ, ◌+◌, ◌-◌, ◌*◌, ◌≤◌, ◌<◌, min, take, drop, None, Some}
 use Rattle.std.proofs.Common.{sym, ap, ap₂, ◌∙◌, inl, inr, arith, ltb, ltb-true}
 use Rattle.std.proofs.lemmas.Bool.{ltb-false}
 use Rattle.base.specs.ListLaws.{by_test}
@@ -50,6 +50,12 @@ block_record {s} shaped b k l h inside = ap decode (record_in_lem s b k l h) ∙
 -- m is how many of those that are left stand in one block
 abbrev pub OneBlock : ℕ → ℕ → Type 0
 OneBlock left m = ((m ≡ left) × (left ≤ block_records)) ⊎ ((m ≡ block_records) × (block_records ≤ left))
+
+-- as many as a block has, or all that are left if they are fewer, stand in one block
+pub one_block : (left : ℕ) → OneBlock left (min left block_records)
+one_block left =
+    by_test (λ _. OneBlock left (min left block_records)) (ltb left block_records) (λ t. let l : left < block_records = ltb-true _ _ t in inl (omega arith, omega arith))
+    (λ t. let l : block_records ≤ left = ltb-false _ _ t in inr (omega arith, omega arith))
 
 pub few_records : {m left : ℕ} → OneBlock left m → m ≤ block_records
 few_records (inl (e, l)) = omega arith
