@@ -3,9 +3,32 @@ ghost use Rattle.std.specs.Prelude.{◌≡◌, List, [], ◌∷◌, ℕ, ◌+◌
 ghost use Rattle.base.specs.Sizes.{max_number};
 ghost use mathlib.Core.List.{Memᴰ};
 ghost use Rattle.base.specs.Lists.{place, firsts};
-ghost use Rattle.base.specs.Numbering.{Numbered, number_of};
+ghost use Rattle.base.specs.Numbering.{Numbers, Gives, Numbered, number_of};
 
 use std::marker::Model;
+
+// The next number to x, where it has none yet; how many have one then. Numbers go from `first` on, 0 is none; c have one, and stand in `order` by their numbers.
+pub fn give_number(
+    first: usize,
+    c: usize,
+    x: usize,
+    numbers: &mut [u16],
+    order: &mut [u16],
+) -> usize
+    requires numbered { Numbers first numbers.old order.old c }
+    requires some { 0 < first }
+    requires inside { x < length numbers.old }
+    requires room { length numbers.old ≤ length order.old }
+    requires few { first + length numbers.old ≤ max_number + 1 }
+    ensures { Gives first (x ∷ []) numbers.old order.old c numbers.new order.new result }
+{
+    if numbers[x] != 0 {
+        return c;
+    }
+    numbers[x] = (first + c) as u16;
+    order[c] = x as u16;
+    c + 1
+}
 
 // The numbers from FIRST on that numbers below N have been given, in the order of first mention: seen as the list of those that have one.
 #[derive(Drop)]
@@ -42,11 +65,8 @@ impl<const FIRST: usize, const N: usize> Numbering<FIRST, N> {
         requires { x < N }
         ensures { self.new ≡ firsts self.old (x ∷ []) }
     {
-        if self.numbers[x] == 0 {
-            self.order[self.count] = x as u16;
-            self.count += 1;
-            self.numbers[x] = (FIRST + self.count) as u16;
-        }
+        let count = self.count;
+        self.count = give_number(FIRST + 1, count, x, &mut self.numbers, &mut self.order);
     }
 
     // The number of x.
