@@ -42,23 +42,27 @@ received_at w p m w₁ got n t h =
     ap (λ (s : State masks). front n (counted t s)) got.state_is ∙ ap (front n) (sym (receive_counted m (state w) t p))
     ∙ sym (receive_front n m (counted t (state w)) p h)
 
-module _ (w : Worklist) (p m old : ℕ) (is : old ≡ get_or (map mask w.sets.now) p 0) where
-  -- ---- when there is news
+-- ---- when there is news
 
+module _ (w : Worklist) (p m : ℕ) where
   -- p was not met
   pub news_first : get_or w.met.now p false ≡ false → news_at w p m ≡ true
   unfolding news state_of
   news_first e =
       ap (λ (x : ℕ). eqb x 0 || not (eqb (union (get_or (map mask w.sets.now) p 0) m) (get_or (map mask w.sets.now) p 0))) (get_or-map flag w.met.now p false ∙ ap flag e)
 
+  -- without news nothing changes
+  pub received_none : news_at w p m ≡ false → Received w p m w
+  unfolding receive
+  received_none e = record { state_is = sym (ap (λ (b : Bool). cond b (joined m (state w) p) (state w)) e); same_head = refl; fits = λ h. h; same = same_slices w }
+
+module _ (w : Worklist) (p m old : ℕ) (is : old ≡ get_or (map mask w.sets.now) p 0) where
   -- p was met, and old is its set
   pub news_again : get_or w.met.now p false ≡ true → news_at w p m ≡ not (eqb (union old m) old)
   unfolding news state_of
   news_again e =
       ap (λ (x : ℕ). eqb x 0 || not (eqb (union (get_or (map mask w.sets.now) p 0) m) (get_or (map mask w.sets.now) p 0))) (get_or-map flag w.met.now p false ∙ ap flag e)
       ∙ ap (λ (x : ℕ). not (eqb (union x m) x)) (sym is)
-
-  -- ---- the receipt
 
   -- with news p joins the list: its old set with m is stored, it is met, and its key is put
   pub received_news : (s : LiveVarState) (w₁ : Worklist) → news_at w p m ≡ true → mask s ≡ union old m → Queued w.queue.now w.cursor p w₁.queue.now w₁.cursor → w₁.sets.now ≡ set w.sets.now p s → w₁.met.now ≡ set w.met.now p true
@@ -67,11 +71,6 @@ module _ (w : Worklist) (p m old : ℕ) (is : old ≡ get_or (map mask w.sets.no
     where
       here : state w₁ ≡ receive m (state w) p
       here = unfold state_of receive joined in rw (sets, met, map-set mask w.sets.now p s, map-set flag w.met.now p true, put.queued, put.same_head, grown, is, e)
-
-  -- without news nothing changes
-  pub received_none : news_at w p m ≡ false → Received w p m w
-  unfolding receive
-  received_none e = record { state_is = sym (ap (λ (b : Bool). cond b (joined m (state w) p) (state w)) e); same_head = refl; fits = λ h. h; same = same_slices w }
 
 -- ---- the first to wait
 

@@ -11,7 +11,7 @@ put-self-requires c =
     let w = c.args.self.now in
     let old_is = mask_in w.sets.now c.from-at.result c.args.p c.from-at.ensures in
     c.requires.room (elim c.then-not-self-at.branch [
-      | then-not-self-at-via-then-not-self-at b ↦ news_first w c.args.p (mask c.args.m) _ old_is (search rules)
+      | then-not-self-at-via-then-not-self-at b ↦ news_first w c.args.p (mask c.args.m) (search rules)
       | then-not-self-at-via-else-not-self-at+then-eq b ↦
           let changed : is_changed c.join-result.result.result ≡ true = search rules in
           news_again w c.args.p (mask c.args.m) _ old_is (search rules) ∙ sym c.join-result.ensures.result ∙ changed
@@ -22,7 +22,7 @@ returns-then-not-self-at c =
     let w = c.args.self.now in
     let old_is = mask_in w.sets.now c.from-at.result c.args.p c.from-at.ensures in
     let news : news_at w c.args.p (mask c.args.m) ≡ true = (elim c.then-not-self-at.branch [
-      | then-not-self-at-via-then-not-self-at b ↦ news_first w c.args.p (mask c.args.m) _ old_is (search rules)
+      | then-not-self-at-via-then-not-self-at b ↦ news_first w c.args.p (mask c.args.m) (search rules)
       | then-not-self-at-via-else-not-self-at+then-eq b ↦
           let changed : is_changed c.join-result.result.result ≡ true = search rules in
           news_again w c.args.p (mask c.args.m) _ old_is (search rules) ∙ sym c.join-result.ensures.result ∙ changed
@@ -36,4 +36,4 @@ returns-else-eq c =
     let w = c.args.self.now in
     let old_is = mask_in w.sets.now c.from-at.result c.args.p c.from-at.ensures in
     let unchanged : is_changed c.join-result.result.result ≡ false = search rules in
-    received_none w c.args.p (mask c.args.m) _ old_is (news_again w c.args.p (mask c.args.m) _ old_is (search rules) ∙ sym c.join-result.ensures.result ∙ unchanged)
+    received_none w c.args.p (mask c.args.m) (news_again w c.args.p (mask c.args.m) _ old_is (search rules) ∙ sym c.join-result.ensures.result ∙ unchanged)
