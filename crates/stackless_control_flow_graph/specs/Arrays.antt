@@ -14,13 +14,15 @@
 --   first_edge    key                                 where its part of edges starts; the next key's start ends it (Sorting)
 --   edges         first_edge                          what the key leads to backward (Sorting)
 --   table         block by offset, six places each    its row of the flow table
-use Rattle.std.specs.Prelude.{◌≡◌, Bool, true, false, cond, ℕ, suc, ◌+◌, ◌≤◌, ◌<◌, get_or, set, length, take, List, [], ◌∷◌, ◌++◌, map, unwrap_or}
+use Rattle.std.specs.Prelude.{◌≡◌, Bool, true, false, cond, ℕ, suc, ◌+◌, ◌*◌, ◌≤◌, ◌<◌, get_or, set, length, take, List, [], ◌∷◌, ◌++◌, map, unwrap_or}
 use mathlib.Core.List.{Memᴰ}
 use Rattle.base.specs.Lists.{keep, over}
+use Rattle.base.specs.Sizes.{record_bytes, max_instructions}
 use Rattle.base.specs.Numbering.{number_of}
 use Rattle.stackless_bytecode.specs.declared.Bytecode.{Bytecode}
-use Rattle.stackless_bytecode.specs.Kinds.{at, is_branch, falls_through, branch_dests}
+use Rattle.stackless_bytecode.specs.Kinds.{at, is_exit, is_branch, falls_through, branch_dests}
 use Rattle.stackless_bytecode.specs.Successors.{ascending, successors}
+use Rattle.sheet.specs.Layout.{instruction_at, record_start}
 use Rattle.stackless_control_flow_graph.specs.declared.Successors.{Successors}
 use Rattle.stackless_control_flow_graph.specs.Blocks.{starts, lowers, upper_of, keyed, key_of}
 
@@ -83,6 +85,41 @@ key_in lowers o = unwrap_or (number_of 2 lowers o) 0
 -- the keys of the blocks that the block from l on goes to
 abbrev pub next_keys : List Bytecode → ℕ → List ℕ
 next_keys code l = map (key_of (keyed code)) (successors code (upper_of code l))
+
+-- ---- blocks in arrays of any code: lowers, the upper of each offset, and the key of each lower by offset
+
+-- block b of the arrays is that from l to u
+pub record BlockAt (ls uppers : List ℕ) (b l u : ℕ) : Type 0 where
+  pub lower : l ≡ get_or ls b 0
+  pub upper : u ≡ get_or uppers (get_or ls b 0) 0
+
+-- the arrays have all that is asked of the blocks that start at these lowers, and their offsets are below n
+pub record Reach (goes : List Successors) (ls uppers : List ℕ) (n : ℕ) : Type 0 where
+  pub lower : (b : ℕ) → b < length ls → get_or ls b 0 < n
+  pub upper : (b : ℕ) → b < length ls → get_or ls b 0 < length uppers
+  pub place : (b : ℕ) → b < length ls → get_or uppers (get_or ls b 0) 0 < length goes
+  pub within : (b : ℕ) → b < length ls → Within n (succs_in goes (get_or uppers (get_or ls b 0) 0))
+
+-- the keys of the successors of offset u
+abbrev pub succ_keys_in : List ℕ → List Successors → ℕ → List ℕ
+succ_keys_in keys goes u = map (λ o. get_or keys o 0) (succs_in goes u)
+
+-- offset k has a record in the sheet
+pub record HasRecord (s : List ℕ) (k : ℕ) : Type 0 where
+  pub ends : record_start k + record_bytes ≤ length s
+  pub few : k < 2 * max_instructions
+
+-- the successor keys of the block that ends at u: 1 at an exit, else those of its successors
+unfoldable pub next_keys_in : List ℕ → List Successors → List ℕ → ℕ → List ℕ
+next_keys_in s goes keys u = cond (is_exit (instruction_at s u)) (1 ∷ []) (succ_keys_in keys goes u)
+
+-- the six numbers of the block from l to u
+unfoldable pub row_from : List ℕ → List Successors → List ℕ → ℕ → ℕ → List ℕ
+row_from s goes keys l u = let next = next_keys_in s goes keys u in l ∷ u ∷ get_or keys l 0 ∷ get_or next 0 0 ∷ get_or next 1 0 ∷ 0 ∷ []
+
+-- of the block from l on
+abbrev pub row_in : List ℕ → List Successors → List ℕ → List ℕ → ℕ → List ℕ
+row_in s goes uppers keys l = row_from s goes keys l (get_or uppers l 0)
 
 -- ---- the pass over the instructions
 

@@ -24,5 +24,6 @@ pub mod SlotLaws
 pub mod LeadLaws
 pub mod SpreadLaws
 pub mod KeyInLaws
+pub mod FoundLaws
 pub mod AlikeLaws
 pub mod TargetLaws

@@ -1,5 +1,5 @@
 -- The key of each offset's block, from the keys of the lowers: one offset after the other takes its own key or else that of the offset before. Assumes nothing.
-use Rattle.std.specs.Prelude.{◌≡◌, Option, Some, None, refl, Bool, true, false, cond, List, ℕ, zero, suc, ◌+◌, ◌<◌, get_or, set, length}
+use Rattle.std.specs.Prelude.{◌≡◌, Option, Some, None, unwrap_or, refl, Bool, true, false, cond, List, ℕ, zero, suc, ◌+◌, ◌<◌, get_or, set, length}
 use Rattle.std.proofs.Common.{sym, ◌∙◌, true≢false, arith, get_or-set_same, get_or-set_other, ap}
 use Rattle.base.specs.Numbering.{number_of}
 use Rattle.base.specs.NumberingLaws.{number_in_list}
@@ -7,6 +7,7 @@ use Rattle.base.specs.Lists.{has, place}
 use Rattle.base.specs.ListLaws.{by_test, by_eq, in_has, has_in}
 use Rattle.stackless_bytecode.specs.declared.Bytecode.{Bytecode}
 use Rattle.stackless_bytecode.specs.Sound.{Sound}
+use Rattle.stackless_control_flow_graph.specs.Arrays.{key_in}
 use Rattle.stackless_control_flow_graph.specs.Blocks.{starts, lower_of, keyed, key_of}
 use Rattle.stackless_control_flow_graph.specs.BlockLaws.{lower_start, lower_next, keyed_in, in_keyed}
 
@@ -22,6 +23,18 @@ spread_begin code out = record { each = λ j h. absurd (omega arith); before = �
 abbrev pub key_or : Option ℕ → ℕ → ℕ
 key_or None last = last
 key_or (Some key) last = key
+
+-- where 0 stands for none: a key that is there is taken
+pub key_there : (ks : List ℕ) (k x last : ℕ) → x ≡ key_in ks k → (x ≡ 0 → ⊥) → x ≡ key_or (number_of 2 ks k) last
+unfolding number_of
+key_there ks k x last is g =
+    by_test (λ b. x ≡ unwrap_or (cond b (Some (2 + place k ks)) None) 0 → x ≡ key_or (cond b (Some (2 + place k ks)) None) last) (has k ks) (λ e p. p) (λ e p. absurd (g p)) is
+
+-- and else the last
+pub key_none : (ks : List ℕ) (k x last : ℕ) → x ≡ key_in ks k → x ≡ 0 → last ≡ key_or (number_of 2 ks k) last
+unfolding number_of
+key_none ks k x last is z =
+    by_test (λ b. x ≡ unwrap_or (cond b (Some (2 + place k ks)) None) 0 → last ≡ key_or (cond b (Some (2 + place k ks)) None) last) (has k ks) (λ e p. absurd (omega arith)) (λ e p. refl) is
 
 module _ (code : List Bytecode) (sound : Sound code) where
   module _ (out : List ℕ) (k last last' : ℕ) (inside : k < length code) (is : last' ≡ key_or (number_of 2 (keyed code) k) last) (s : Spreading code out k last) where

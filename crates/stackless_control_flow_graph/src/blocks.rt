@@ -1,14 +1,14 @@
 // The blocks by offset: the lower of each, and the upper of the block that an offset stands in. Assumes nothing.
-ghost use Rattle.std.specs.Prelude.{◌≡◌, List, ◌≤◌, ◌<◌, length, take};
+ghost use Rattle.std.specs.Prelude.{◌≡◌, List, ◌≤◌, ◌<◌, get_or, length, take};
 ghost use Rattle.base.specs.Sizes.{max_instructions};
 ghost use Rattle.stackless_bytecode.specs.declared.Bytecode.{Bytecode};
 ghost use Rattle.stackless_bytecode.specs.Successors.{successors};
-ghost use Rattle.stackless_control_flow_graph.specs.Arrays.{offsets_of, Within, marked_in, Marked, Uppers, BlocksFound};
+ghost use Rattle.stackless_control_flow_graph.specs.Arrays.{offsets_of, Within, marked_in, Marked, Uppers, BlockAt, BlocksFound};
 ghost use Rattle.stackless_control_flow_graph.specs.Blocks.{lowers, blocks_of, upper_of};
 ghost use Rattle.sheet.specs.Code.{code_in};
 
-use crate::Successors;
 use crate::starts::visit_all;
+use crate::{Block, Successors};
 use base::MAX_INSTRUCTIONS;
 use sheet::accepted::ResolvedSheet;
 
@@ -48,6 +48,17 @@ pub fn find_uppers(marks: &[bool], n: usize, uppers: &mut [u16])
             end = k;
         }
     }
+}
+
+// The bounds of block b, by the place of its lower.
+pub fn block_at(lowers: &[u16], uppers: &[u16], b: usize) -> Block
+    requires inside { b < length lowers.now }
+    requires upper { get_or lowers.now b 0 < length uppers.now }
+    ensures { BlockAt lowers.now uppers.now b result.lower result.upper }
+{
+    let lower = usize::from(lowers[b]);
+    let upper = usize::from(uppers[lower]);
+    Block { lower, upper }
 }
 
 // The blocks of a sheet, into what is lent: the successors of each offset, the lowers by offset to the front of `lowers`, and the upper of the block of each offset. The result is how many blocks.

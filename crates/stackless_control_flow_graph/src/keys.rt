@@ -1,5 +1,5 @@
 // The keys of the blocks: blocks by offset, at each the successors take keys first, then the block. Assumes nothing.
-ghost use Rattle.std.specs.Prelude.{◌≡◌, List, [], ◌∷◌, ◌++◌, map, ◌<◌, ◌≤◌, length};
+ghost use Rattle.std.specs.Prelude.{◌≡◌, List, [], ◌∷◌, ◌++◌, map, ℕ, ◌<◌, ◌≤◌, get_or, length};
 ghost use Rattle.base.specs.Lists.{firsts};
 ghost use Rattle.base.specs.Sizes.{max_instructions};
 ghost use Rattle.stackless_bytecode.specs.declared.Bytecode.{Bytecode};
@@ -64,6 +64,18 @@ pub fn keys_of<const N: usize>(keys: &Numbering<FIRST_KEY, N>, lowers: Successor
     }
 }
 
+// The same out of an array that has the key of each.
+pub fn keys_in(keys: &[u16], lowers: Successors) -> Successors
+    requires { Within (length keys.now) (offsets_of lowers) }
+    ensures { offsets_of result ≡ map (λ o. get_or keys.now o 0) (offsets_of lowers) }
+{
+    match lowers {
+        Successors::None => Successors::None,
+        Successors::One(a) => Successors::One(keys[usize::from(a)]),
+        Successors::Two(a, b) => Successors::Two(keys[usize::from(a)], keys[usize::from(b)]),
+    }
+}
+
 // The key of the block of each of the first n offsets: an offset at which none starts takes that of the offset before.
 pub fn spread_keys<const N: usize>(
     keys: &Numbering<FIRST_KEY, N>,
@@ -80,6 +92,20 @@ pub fn spread_keys<const N: usize>(
             last = key;
         }
         key_of_offset[k] = last;
+    }
+}
+
+// The same in an array that has the keys of the lowers, and 0 at the other offsets.
+pub fn spread_in(keys: &mut [u16], n: usize)
+    requires { n ≤ length keys.old }
+    ensures { (code : List Bytecode) → Sound code → length code ≡ n → ((o : ℕ) → o < length code → get_or keys.old o 0 ≡ key_in (keyed code) o) → OffsetKeys code keys.new }
+{
+    let mut last = 0;
+    for k in 0..n {
+        if keys[k] != 0 {
+            last = keys[k];
+        }
+        keys[k] = last;
     }
 }
 
@@ -100,12 +126,22 @@ pub fn find_keys<'a>(
     requires { keys.old ≡ [] }
     ensures { result.by_offset.sheet ≡ sheet.entry }
 {
-    let by_offset = arrays.find(sheet);
-    give_all(keys, by_offset);
-    KeyedBlocks { by_offset, keys }
+    KeyedBlocks::of(arrays.find(sheet), keys)
 }
 
 impl<'a> KeyedBlocks<'a> {
+    // These blocks, wherever their arrays lie, and their keys.
+    pub fn of(
+        by_offset: Blocks<'a>,
+        keys: &'a mut Numbering<FIRST_KEY, MAX_INSTRUCTIONS>,
+    ) -> KeyedBlocks<'a>
+        requires { keys.old ≡ [] }
+        ensures { result.by_offset ≡ by_offset.entry }
+    {
+        give_all(keys, by_offset);
+        KeyedBlocks { by_offset, keys }
+    }
+
     // How many blocks.
     pub fn count(self) -> usize
         ensures blocks { result ≡ blocks_of (code_in self.entry.by_offset.sheet) }

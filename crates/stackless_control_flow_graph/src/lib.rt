@@ -14,3 +14,10 @@ pub enum Successors {
     One(u16),
     Two(u16, u16),
 }
+
+// A block: its first offset and its last.
+#[derive(Clone, Copy)]
+pub struct Block {
+    pub lower: usize,
+    pub upper: usize,
+}
