@@ -1,11 +1,12 @@
 -- Readings that the worked sheets do not pin down, by computation: each refusal, keys, double edges, exits with a flag, merging, graphs. Assumes nothing.
-use Rattle.base.specs.declared.Refusal.TheVariants.{AskedNode, Block, CodeTooLong, FallsThrough, FlaggedStop, Heading, LabelRepeated, LabelUndefined, Length, Local, LocalHidden, Nodes, NumberTooHigh, OutputShort, Record, Triples}
+use Rattle.base.specs.declared.Refusal.{Refusal}
+use Rattle.base.specs.declared.Refusal.TheVariants.{AskedNode, Block, CodeTooLong, FallsThrough, FirstBlock, FlaggedStop, Heading, LabelRepeated, LabelUndefined, Length, Local, LocalHidden, Nodes, NumberTooHigh, OutputShort, Record, TooManySheets, Triples}
 use Rattle.std.specs.Prelude.{◌≡◌, refl, false, List, [], ◌∷◌, ◌++◌, map, ℕ, zero, suc, ◌+◌, ◌*◌, ◌^◌, ◌-◌, ◌<◌, set, replicate, Err}
 use Rattle.std.proofs.Common.{arith}
 use Rattle.base.specs.Sizes.{set_bytes, block_bytes, max_bytes}
 use Rattle.base.specs.Lists.{tab, gather}
 use Rattle.base.specs.Bytes.{bytes_of}
-use Rattle.base.specs.Refusals.{Done}
+use Rattle.base.specs.Refusals.{Done, number_of, place_of}
 use Rattle.stackless_bytecode.specs.declared.Bytecode.{Bytecode}
 use Rattle.stackless_bytecode.specs.Kinds.{at, Stop, Destroy, IsParent, WriteBack}
 use Rattle.stackless_bytecode.specs.declared.Lookup.TheVariants.{Named, Unnamed, Undefined}
@@ -43,6 +44,56 @@ losing l =
 -- the byte at `at` is x, and the check of the heading, whose low byte is 2, then c
 unfoldable pub changed : List ℕ → ℕ → ℕ → ℕ → List ℕ
 changed s at x c = set (set s at x) 2 c
+
+-- ---- the table
+
+-- a row: a refusal's number and its place
+pub record Row (e : Refusal) (number place : ℕ) : Type 0 where
+  pub number_is : number_of e ≡ number
+  pub place_is : place_of e ≡ place
+
+-- all rows: the readings below and those of class sets name refusals, and here is the number and the place of each
+pub record Numbers : Type 0 where
+  pub row_1 : Row Length 1 0
+  pub row_2 : (p : ℕ) → Row (Block p) 2 p
+  pub row_3 : Row Heading 3 0
+  pub row_4 : (p : ℕ) → Row (Record p) 4 p
+  pub row_5 : (p : ℕ) → Row (Local p) 5 p
+  pub row_6 : (p : ℕ) → Row (LabelRepeated p) 6 p
+  pub row_7 : (p : ℕ) → Row (LabelUndefined p) 7 p
+  pub row_8 : (p : ℕ) → Row (FallsThrough p) 8 p
+  pub row_9 : Row OutputShort 9 0
+  pub row_10 : Row NumberTooHigh 10 0
+  pub row_11 : Row CodeTooLong 11 0
+  pub row_12 : (p : ℕ) → Row (Nodes p) 12 p
+  pub row_13 : (p : ℕ) → Row (Triples p) 13 p
+  pub row_14 : Row AskedNode 14 0
+  pub row_15 : (p : ℕ) → Row (LocalHidden p) 15 p
+  pub row_16 : Row FirstBlock 16 0
+  pub row_17 : Row TooManySheets 17 0
+  pub row_18 : (p : ℕ) → Row (FlaggedStop p) 18 p
+
+pub numbers : Numbers
+numbers = record {
+  row_1 = record { number_is = refl; place_is = refl };
+  row_2 = λ p. record { number_is = refl; place_is = refl };
+  row_3 = record { number_is = refl; place_is = refl };
+  row_4 = λ p. record { number_is = refl; place_is = refl };
+  row_5 = λ p. record { number_is = refl; place_is = refl };
+  row_6 = λ p. record { number_is = refl; place_is = refl };
+  row_7 = λ p. record { number_is = refl; place_is = refl };
+  row_8 = λ p. record { number_is = refl; place_is = refl };
+  row_9 = record { number_is = refl; place_is = refl };
+  row_10 = record { number_is = refl; place_is = refl };
+  row_11 = record { number_is = refl; place_is = refl };
+  row_12 = λ p. record { number_is = refl; place_is = refl };
+  row_13 = λ p. record { number_is = refl; place_is = refl };
+  row_14 = record { number_is = refl; place_is = refl };
+  row_15 = λ p. record { number_is = refl; place_is = refl };
+  row_16 = record { number_is = refl; place_is = refl };
+  row_17 = record { number_is = refl; place_is = refl };
+  row_18 = λ p. record { number_is = refl; place_is = refl };
+}
 
 -- ---- refusals
 
