@@ -5,12 +5,13 @@ use Rattle.base.specs.Sizes.{max_locals}
 use Rattle.base.specs.ListLaws.{by_test, by_eq}
 use Rattle.dataflow_domains.specs.Mask.{bit, holds, union, minus, set_of}
 use Rattle.dataflow_domains.specs.MaskLaws.{ext, bit_union, bit_minus, bit_empty, bit_self, bit_other, bit_lt, minus_none}
+use Rattle.dataflow_domains.specs.Sets.{mask}
 use Rattle.dataflow_domains.specs.HoldsLaws.{holds_true, holds_false}
 use Rattle.stackless_bytecode.specs.declared.Bytecode.{Bytecode}
 use Rattle.stackless_bytecode.specs.Kinds.{Assign, Call, Ret, Load, Branch, Abort, Prop, at, dsts_of, srcs_of, is_flagged}
 use Rattle.livevar_analysis.specs.Live.{assigned, called, execute}
 use Rattle.livevar_analysis.specs.RuleLaws.{assign_rule, load_rule}
-use Rattle.livevar_analysis.specs.Rules.{ListedLocals, applied, no_rule, rule_by, rule_at, Ruled}
+use Rattle.livevar_analysis.specs.Rules.{ListedLocals, applied, no_rule, rule_by, rule_at, Ruled, RulePut}
 use Rattle.livevar_analysis.specs.declared.rules.Rule.{Rule}
 
 -- ---- the set of a list, one place after the other
@@ -128,9 +129,25 @@ ruled_none code rules = record { each = λ k m h. absurd (not-suc-le-zero h) }
 pub ruled_all : (code : List Bytecode) (n : ℕ) (rules : List Rule) → length code ≤ n → RuledTo code n rules → Ruled code rules
 ruled_all code n rules l r = record { each = λ k m h. r.each k m (omega arith) }
 
--- one rule more
+-- a rule is stored: it stands there, and those before it are as they were
+pub rule_put : (rules : List Rule) (k : ℕ) (rule : Rule) → k < length rules → RulePut rules k (mask rule.kills) (mask rule.gens) rule.assign (set rules k rule)
+rule_put rules k rule inside =
+    let here : get_or (set rules k rule) k no_rule ≡ rule = get_or-set_same rules k rule no_rule inside in
+    record {
+      killed = ap (λ (r : Rule). mask r.kills) here;
+      genned = ap (λ (r : Rule). mask r.gens) here;
+      flagged = ap (λ (r : Rule). r.assign) here;
+      others = λ i m h. ap (λ (r : Rule). rule_by r m) (get_or-set_other rules k i rule no_rule (λ e. omega arith));
+    }
+
+-- one rule more, whatever stands behind it
+pub ruled_put : (code : List Bytecode) (n : ℕ) (rules : List Rule) (kill gen : ℕ) (assign : Bool) (rules₁ : List Rule) → RulePut rules n kill gen assign rules₁
+    → ((m : ℕ) → applied assign kill gen m ≡ execute (at code n) m) → RuledTo code n rules → RuledTo code (n + 1) rules₁
+ruled_put code n rules kill gen assign rules₁ put is r = record {
+  each = λ k m h. by_eq k n (λ e. rw (e, put.killed, put.genned, put.flagged) (is m)) (λ g. let before : k < n = omega arith in put.others k m before ∙ r.each k m before);
+}
+
+-- one rule more, stored in the slice
 pub ruled_more : (code : List Bytecode) (n : ℕ) (rules : List Rule) (rule : Rule) → n < length rules → ((m : ℕ) → rule_by rule m ≡ execute (at code n) m) → RuledTo code n rules
     → RuledTo code (n + 1) (set rules n rule)
-ruled_more code n rules rule inside is r = record {
-  each = λ k m h. by_eq k n (λ e. rw (e, get_or-set_same rules n rule no_rule inside) (is m)) (λ g. rw (get_or-set_other rules n k rule no_rule g) (r.each k m (omega arith)));
-}
+ruled_more code n rules rule inside is r = ruled_put code n rules (mask rule.kills) (mask rule.gens) rule.assign (set rules n rule) (rule_put rules n rule inside) is r

@@ -51,6 +51,12 @@ pub record HandedOn (w : Worklist) (ps : List ℕ) (m : ℕ) (w₁ : Worklist) :
   pub list_fits : ListFits w₁
   pub same : SameSlices w w₁
 
+-- they have received it as far as the first n nodes go: nothing is said of sets behind theirs
+pub record HandedFront (n : ℕ) (w : Worklist) (ps : List ℕ) (m : ℕ) (w₁ : Worklist) : Type 0 where
+  pub state_is : state_at n w₁ ≡ over (receive m) (state_at n w) ps
+  pub same_head : w₁.cursor.head ≡ w.cursor.head
+  pub list_fits : ListFits w₁
+
 -- ---- one key
 
 -- the slices reach as far as the set of key k and, of a block, its bounds and its rules

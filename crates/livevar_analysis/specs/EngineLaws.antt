@@ -28,7 +28,7 @@ use Rattle.livevar_analysis.specs.Analysis.{execute_all, rest_of, out_of}
 use Rattle.livevar_analysis.specs.Rules.{applied, rule_by}
 use Rattle.livevar_analysis.specs.declared.rules.Rule.{Rule}
 use Rattle.livevar_analysis.specs.declared.tables.Tables.{Tables}
-use Rattle.livevar_analysis.specs.Engine.{RunTables, CanHand, HandedOn, CanOut, given, leads, CanHandKey}
+use Rattle.livevar_analysis.specs.Engine.{RunTables, CanHand, HandedOn, HandedFront, CanOut, given, leads, CanHandKey}
 
 -- ---- one rule
 
@@ -129,6 +129,9 @@ module _ (w₀ : Worklist) (ps : List ℕ) (m : ℕ) (can : CanHand w₀ ps m) w
 -- nodes below n have received it in the state of the first n nodes too
 pub handed_at : (w : Worklist) (ps : List ℕ) (m : ℕ) (w₁ : Worklist) (n : ℕ) → ((p : ℕ) → Memᴰ p ps → p < n) → HandedOn w ps m w₁ → state_at n w₁ ≡ over (receive m) (state_at n w) ps
 handed_at w ps m w₁ n inside h = ap (front n) h.state_is ∙ sym (over_front n m ps inside (state w))
+
+pub handed_front : (w : Worklist) (ps : List ℕ) (m : ℕ) (w₁ : Worklist) (n : ℕ) → ((p : ℕ) → Memᴰ p ps → p < n) → HandedOn w ps m w₁ → HandedFront n w ps m w₁
+handed_front w ps m w₁ n inside h = record { state_is = handed_at w ps m w₁ n inside h; same_head = h.same_head; list_fits = h.list_fits }
 
 -- ---- what a key hands on
 

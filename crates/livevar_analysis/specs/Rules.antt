@@ -44,3 +44,10 @@ rule_at rules k m = rule_by (get_or rules k no_rule) m
 -- the slice has the rule of each instruction
 pub record Ruled (code : List Bytecode) (rules : List Rule) : Type 0 where
   pub each : (k m : ℕ) → k < length code → rule_at rules k m ≡ execute (at code k) m
+
+-- rule k of the slice is (kill, gen, assign) now, and those before it do what they did
+pub record RulePut (rules : List Rule) (k kill gen : ℕ) (assign : Bool) (rules₁ : List Rule) : Type 0 where
+  pub killed : mask (get_or rules₁ k no_rule).kills ≡ kill
+  pub genned : mask (get_or rules₁ k no_rule).gens ≡ gen
+  pub flagged : (get_or rules₁ k no_rule).assign ≡ assign
+  pub others : (i m : ℕ) → i < k → rule_at rules₁ i m ≡ rule_at rules i m

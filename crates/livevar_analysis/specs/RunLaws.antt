@@ -33,9 +33,9 @@ use Rattle.livevar_analysis.specs.Analysis.{out_of, analyze_function}
 use Rattle.livevar_analysis.specs.AnalysisLaws.{graph, narrow, bound_fits}
 use Rattle.stackless_control_flow_graph.specs.Graph.{Edges}
 use Rattle.stackless_control_flow_graph.specs.FlowLaws.{keys_blocks}
-use Rattle.livevar_analysis.specs.Engine.{Analyzable, RunTables, leads, given, CanHand, HandedOn, CanOut, CanHandKey, Begun, CanRun, RunInput, SolveInput, Solved}
+use Rattle.livevar_analysis.specs.Engine.{Analyzable, RunTables, leads, given, CanHand, HandedOn, HandedFront, CanOut, CanHandKey, Begun, CanRun, RunInput, SolveInput, Solved}
 use Rattle.livevar_analysis.specs.declared.tables.Tables.{Tables}
-use Rattle.livevar_analysis.specs.EngineLaws.{CanStep, step_out, step_hands, handed_as, handed_at}
+use Rattle.livevar_analysis.specs.EngineLaws.{CanStep, step_out, step_hands, handed_at, handed_front}
 
 -- ---- how many keys there are, and how many are taken
 
@@ -101,6 +101,14 @@ module _ (code : List Bytecode) (locals : ℕ) (ok : Analyzable code locals) whe
         inv = general.begin_inv mask_laws (leads code) out (mask_size locals) n 1 whole thin (omega arith);
         same = ap (λ (f : ℕ). run (leads code) out f (begin n 1)) all;
       }
+
+  -- in the end there is a set for each node
+  pub sets_count : length (analyze_function code (keyed code) locals).sets ≡ n
+  unfolding analyze_function
+  sets_count = (general.ends mask_laws (leads code) out (mask_size locals) n 1 whole thin (omega arith) (taken_bound (length (keyed code)) locals) enough).ok.sets_length
+    where
+      enough : n + n * ones (2 ^ locals - 1) ≤ taken_bound (length (keyed code)) locals + ones (2 ^ locals - 1)
+      enough = subst (λ (l : ℕ). n + n * l ≤ taken_bound (length (keyed code)) locals + l) (sym (ones-ones locals)) (omega (arith, bound_fits code ok.sound locals small))
 
   -- a turn of the definition
   pub runs_step : (st : State masks) (k : ℕ) (ks : List ℕ) → st.list ≡ k ∷ ks → Runs code locals st → Runs code locals (step (leads code) out st k ks)
@@ -171,14 +179,16 @@ module _ (code : List Bytecode) (locals : ℕ) (ok : Analyzable code locals) whe
       room = λ i h. room i h;
     }
 
-    -- and then the state is the definition's
-    pub runs_turn : (w₂ : Worklist) → HandedOn w₁ (leads code k) (given code w₁.sets.now k) w₂ → Runs code locals (state_at n w₂)
+    -- and then the state is the definition's: that of the n nodes, whatever sets stand behind theirs
+    pub runs_turn_front : (w₂ : Worklist) → state_at n w₂ ≡ over (receive (given code w₁.sets.now k)) (state_at n w₁) (leads code k) → Runs code locals (state_at n w₂)
     unfolding step
-    runs_turn w₂ h =
-        subst (Runs code locals)
-        (sym (handed_at w₁ (leads code k) (given code w₁.sets.now k) w₂ n leads_inside h
-        ∙ ap₂ (λ (m : ℕ) (s : State masks). over (receive m) s (leads code k)) (ap (out k) (sym own_is)) popped_is))
+    runs_turn_front w₂ e =
+        subst (Runs code locals) (sym (e ∙ ap₂ (λ (m : ℕ) (s : State masks). over (receive m) s (leads code k)) (ap (out k) (sym own_is)) popped_is))
         (runs_step (state_at n w) k (state w₁).list took.first r)
+
+    -- so it is where all sets are as received
+    pub runs_turn : (w₂ : Worklist) → HandedOn w₁ (leads code k) (given code w₁.sets.now k) w₂ → Runs code locals (state_at n w₂)
+    runs_turn w₂ h = runs_turn_front w₂ (handed_at w₁ (leads code k) (given code w₁.sets.now k) w₂ n leads_inside h)
 
 -- ---- the loop
 
@@ -230,25 +240,42 @@ module _ (t : Tables) (w₀ : Worklist) where
         pub held_hands : CanHandKey t w₁ k m
         held_hands = step_hands t w₁ k held_asks m (is_given held_asks.code held_asks.sound held_asks.tables held_asks.nodes)
 
-        module _ (w₂ : Worklist) (hand : (code : List Bytecode) → Edges code t.first_edge.now t.edges.now → length w₁.met.now ≡ 2 + length (keyed code) → HandedOn w₁ (leads code k) m w₂) where
-          stepped : (code : List Bytecode) → Sound code → RunTables code t → length w₁.met.now ≡ 2 + length (keyed code) → HandedOn w₁ (leads code k) (given code w₁.sets.now k) w₂
-          stepped code sound tables nodes = handed_as w₁ w₂ refl (is_given code sound tables nodes) (hand code tables.leads_are nodes)
+        -- the nodes have received it, whatever sets stand behind theirs
+        module _ (w₂ : Worklist)
+            (hand : (code : List Bytecode) (locals : ℕ) → Analyzable code locals → Edges code t.first_edge.now t.edges.now → length w₁.met.now ≡ 2 + length (keyed code)
+            → HandedFront (length w₁.met.now) w₁ (leads code k) m w₂) where
+          stepped : (code : List Bytecode) (locals : ℕ) → Begun code locals t w₀ → HandedFront (2 + length (keyed code)) w₁ (leads code k) (given code w₁.sets.now k) w₂
+          stepped code locals b =
+              let nodes : length w₁.met.now ≡ 2 + length (keyed code) = took.same.met_long ∙ nodes_kept b.nodes in
+              subst (λ (x : ℕ). HandedFront x w₁ (leads code k) (given code w₁.sets.now k) w₂) nodes
+              (subst (λ (x : ℕ). HandedFront (length w₁.met.now) w₁ (leads code k) x w₂) (is_given code b.analyzable.sound b.tables nodes) (hand code locals b.analyzable b.tables.leads_are nodes))
 
-          handed : HandedOn w₁ (leads can.code k) (given can.code w₁.sets.now k) w₂
-          handed = stepped can.code can.begun.analyzable.sound can.begun.tables (took.same.met_long ∙ nodes_kept can.begun.nodes)
+          -- the head has moved by one
+          pub front_head : w₂.cursor.head ≡ w.cursor.head + 1
+          front_head = (stepped can.code can.locals can.begun).same_head ∙ took.next_head
+
+          -- and the state is that of the definition's next turn
+          pub front_runs : (code : List Bytecode) (locals : ℕ) → Begun code locals t w₀ → Runs code locals (state_at (2 + length (keyed code)) w₂)
+          front_runs code locals b =
+              runs_turn_front code locals b.analyzable w w₁ k took (nodes_kept b.nodes) (sets_kept b.nodes b.sets_fit) (h.same.queue_long ∙ b.list_long) h.list_fits (h.runs code locals b) w₂
+              (stepped code locals b).state_is
+
+          pub front_more : SameSlices w₁ w₂ → Held w₂
+          front_more same = record { runs = front_runs; list_fits = (stepped can.code can.locals can.begun).list_fits; same = same_then h.same (same_then took.same same) }
+
+        -- all sets are as received
+        module _ (w₂ : Worklist) (hand : (code : List Bytecode) → Edges code t.first_edge.now t.edges.now → length w₁.met.now ≡ 2 + length (keyed code) → HandedOn w₁ (leads code k) m w₂) where
+          fronts : (code : List Bytecode) (locals : ℕ) → Analyzable code locals → Edges code t.first_edge.now t.edges.now → length w₁.met.now ≡ 2 + length (keyed code)
+              → HandedFront (length w₁.met.now) w₁ (leads code k) m w₂
+          fronts code locals a edges nodes =
+              handed_front w₁ (leads code k) m w₂ (length w₁.met.now) (λ p i. subst (λ (x : ℕ). p < x) (sym nodes) (((whole code locals a).inside k).each p i)) (hand code edges nodes)
 
           -- the head has moved by one
           pub held_head : w₂.cursor.head ≡ w.cursor.head + 1
-          held_head = handed.same_head ∙ took.next_head
+          held_head = front_head w₂ fronts
 
           pub held_more : Held w₂
-          held_more = record { runs = more; list_fits = handed.list_fits; same = same_then h.same (same_then took.same handed.same) }
-            where
-              more : (code : List Bytecode) (locals : ℕ) → Begun code locals t w₀ → Runs code locals (state_at (2 + length (keyed code)) w₂)
-              more code locals b =
-                  let nodes : length w.met.now ≡ 2 + length (keyed code) = nodes_kept b.nodes in
-                  runs_turn code locals b.analyzable w w₁ k took nodes (sets_kept b.nodes b.sets_fit) (h.same.queue_long ∙ b.list_long) h.list_fits (h.runs code locals b) w₂
-                  (stepped code b.analyzable.sound b.tables (took.same.met_long ∙ nodes))
+          held_more = front_more w₂ fronts (hand can.code can.begun.tables.leads_are (took.same.met_long ∙ nodes_kept can.begun.nodes)).same
 
     -- the end: none waits
     pub held_done : (w w₁ : Worklist) → Held w → Ended w w₁ → (code : List Bytecode) (locals : ℕ) → Begun code locals t w₀ → Solved code locals w₁.cursor.head w₁.sets.now

@@ -28,7 +28,7 @@ solve-taken-requires c =
     record {
       code = code_in sheet;
       locals = locals_of sheet.bytes.now;
-      input = solve_input sheet (rw c.accepted.ensures.bytes at c.decode_rules.ensures) (c.decode_rules.auto.rules ∙ length-replicate max_instructions c.none-rules.result) graph (length-replicate (max_instructions + 2) c.empty-sets.result) _ refl refl refl refl refl (blank_sets (max_instructions + 2) c.empty-sets.result c.empty-sets.ensures);
+      input = solve_input sheet.checked (rw c.accepted.ensures.bytes at c.decode_rules.ensures) (c.decode_rules.auto.rules ∙ length-replicate max_instructions c.none-rules.result) graph (length-replicate (max_instructions + 2) c.empty-sets.result) _ refl refl refl refl refl (blank_sets (max_instructions + 2) c.empty-sets.result c.empty-sets.ensures);
     }
 
 pub write_info-requires : goal.write_info-requires
@@ -38,7 +38,7 @@ write_info-requires c =
     let graph = c.graph_of.ensures in
     rw (all sheet graph) (record {
       rules = omega (arith, sheet.few, long);
-      sets = key_sets sheet (rw c.accepted.ensures.bytes at c.decode_rules.ensures) long (cut sheet graph) (c.solve-taken.auto.sets ∙ length-replicate (max_instructions + 2) c.empty-sets.result);
+      sets = key_sets sheet.checked (rw c.accepted.ensures.bytes at c.decode_rules.ensures) long (cut sheet graph) (c.solve-taken.auto.sets ∙ length-replicate (max_instructions + 2) c.empty-sets.result);
       room = omega (arith, c.requires, ap (λ (x : ℕ). pair_bytes * x) sheet.size);
     })
 
@@ -47,5 +47,5 @@ returns c =
     let sheet = c.args.sheet in
     let long = c.decode_rules.auto.rules ∙ length-replicate max_instructions c.none-rules.result in
     let graph = c.graph_of.ensures in
-    let solved = c.solve-taken.ensures (code_in sheet) (locals_of sheet.bytes.now) (solve_input sheet (rw c.accepted.ensures.bytes at c.decode_rules.ensures) long graph (length-replicate (max_instructions + 2) c.empty-sets.result) _ refl refl refl refl refl (blank_sets (max_instructions + 2) c.empty-sets.result c.empty-sets.ensures)) in
-    live_written sheet (rw c.accepted.ensures.bytes at c.decode_rules.ensures) long (cut sheet graph) (c.solve-taken.auto.sets ∙ length-replicate (max_instructions + 2) c.empty-sets.result) solved (rw (all sheet graph) at c.write_info.ensures)
+    let solved = c.solve-taken.ensures (code_in sheet) (locals_of sheet.bytes.now) (solve_input sheet.checked (rw c.accepted.ensures.bytes at c.decode_rules.ensures) long graph (length-replicate (max_instructions + 2) c.empty-sets.result) _ refl refl refl refl refl (blank_sets (max_instructions + 2) c.empty-sets.result c.empty-sets.ensures)) in
+    live_written sheet.checked (rw c.accepted.ensures.bytes at c.decode_rules.ensures) long (cut sheet graph) solved (rw (all sheet graph) at c.write_info.ensures)
