@@ -67,13 +67,13 @@ applied_sources ss m = ap (union ss) (minus_none m)
 
 -- ---- each arm
 
--- the abort local is asked for only of a flagged Call
 -- the locals of a list that is in range
 pub listed : {n : ℕ} {list xs : List ℕ} → ListedLocals n list → xs ≡ take n list → (i : ℕ) → i < length xs → get_or xs i 0 < max_locals
 listed {n} {list} h e i l =
     let inside : i < n = omega (arith, ap length e, length-take n list) in
     omega (arith, ap (λ (xs : List ℕ). get_or xs i 0) e, get_or-take n list i 0 inside, h.each i inside)
 
+-- the abort local is asked for only of a flagged Call
 pub flag_asked : (r : Bytecode) → r.kind ≡ Call → r.flag ≡ 1 → is_flagged r ≡ true
 unfolding is_flagged
 flag_asked r k f = rw (k, f)

@@ -53,7 +53,7 @@ pub record Row (e : Refusal) (number place : ℕ) : Type 0 where
   pub place_is : place_of e ≡ place
 
 -- all rows: the readings below and those of class sets name refusals, and here is the number and the place of each
-pub record Numbers : Type 0 where
+pub record RefusalTable : Type 0 where
   pub row_1 : Row Length 1 0
   pub row_2 : (p : ℕ) → Row (Block p) 2 p
   pub row_3 : Row Heading 3 0
@@ -73,8 +73,8 @@ pub record Numbers : Type 0 where
   pub row_17 : Row TooManySheets 17 0
   pub row_18 : (p : ℕ) → Row (FlaggedStop p) 18 p
 
-pub numbers : Numbers
-numbers = record {
+pub refusal_table : RefusalTable
+refusal_table = record {
   row_1 = record { number_is = refl; place_is = refl };
   row_2 = λ p. record { number_is = refl; place_is = refl };
   row_3 = record { number_is = refl; place_is = refl };
