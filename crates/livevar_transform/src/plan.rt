@@ -163,6 +163,29 @@ impl<'a> Here<'a> {
     }
 }
 
+// The plan of the sheet into the lent arrays, where `refs` are the references.
+pub fn fill_plan(live: LiveSheet, refs: LiveVarState, fates: &mut [Fate], lost: &mut [LiveVarState])
+    requires offsets { live.sheet.count ≤ length fates.old }
+    requires edges { 2 * live.sheet.count ≤ length lost.old }
+    ensures planned { Planned (code_of live.entry.sheet.bytes.now) (infos_of live.entry.sheet.count live.entry.info.now) (mask refs) fates.new (map mask lost.new) live.entry.sheet.count }
+    ensures offsets { length fates.new ≡ length fates.old }
+    ensures edges { length lost.new ≡ length lost.old }
+{
+    let mut behind = false;
+    for k in 0..live.sheet.count {
+        let here = Here {
+            live,
+            k,
+            r: live.sheet.instruction(k),
+        };
+        let fate = here.fate(behind);
+        fates[k] = fate;
+        lost[2 * k] = here.lost_on(refs, 2 * k);
+        lost[2 * k + 1] = here.lost_on(refs, 2 * k + 1);
+        behind = fate == Fate::Merged;
+    }
+}
+
 impl<'a> LiveSheet<'a> {
     // The plan, where `refs` are the references.
     pub fn plan(
@@ -177,19 +200,7 @@ impl<'a> LiveSheet<'a> {
         ensures count { result.sheet.count ≡ self.entry.sheet.count }
         ensures planned { Planned (code_of self.entry.sheet.bytes.now) (infos_of self.entry.sheet.count self.entry.info.now) (mask refs) result.fates.now (map mask result.lost.now) self.entry.sheet.count }
     {
-        let mut behind = false;
-        for k in 0..self.sheet.count {
-            let here = Here {
-                live: self,
-                k,
-                r: self.sheet.instruction(k),
-            };
-            let fate = here.fate(behind);
-            fates[k] = fate;
-            lost[2 * k] = here.lost_on(refs, 2 * k);
-            lost[2 * k + 1] = here.lost_on(refs, 2 * k + 1);
-            behind = fate == Fate::Merged;
-        }
+        fill_plan(self, refs, fates, lost);
         Plan {
             sheet: self.sheet.accepted(),
             fates,
