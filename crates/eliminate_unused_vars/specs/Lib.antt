@@ -2,6 +2,7 @@
 pub mod Remap
 pub mod Renumber
 pub mod Renumbered
+pub mod Names
 -- What the inner contracts say.
 pub mod Remaps
 -- Laws.
@@ -9,6 +10,7 @@ pub mod MoreListLaws
 pub mod StayingLaws
 pub mod StayingOrderLaws
 pub mod NamesLaws
+pub mod NameArrayLaws
 pub mod RemapSetLaws
 pub mod RemapLaws
 pub mod RemapChecksLaws

@@ -6,6 +6,7 @@ ghost use Rattle.base.specs.Lists.{firsts};
 ghost use Rattle.livevar_analysis.specs.Rules.{InRange};
 ghost use Rattle.eliminate_unused_vars.specs.Remap.{mentions, new_number};
 ghost use Rattle.eliminate_unused_vars.specs.Renumber.{staying_in};
+ghost use Rattle.eliminate_unused_vars.specs.Names.{NameRoom, Named};
 
 use base::MAX_LOCALS;
 use base::numbering::Numbering;
@@ -13,6 +14,9 @@ use sheet::accepted::AcceptedSheet;
 use sheet::reader::user_locals_of;
 use stackless_bytecode::Bytecode;
 use std::marker::Model;
+
+// What an array of names has for the local with new number 0: 0 is none.
+pub const FIRST_NAME: usize = 1;
 
 // Locals that have new numbers: seen as their list, in the order of the numbers.
 #[derive(Drop)]
@@ -84,4 +88,18 @@ impl Names {
     {
         self.numbers.order()
     }
+}
+
+// The names of all locals of a sheet that stay, into the lent arrays: by local, one more than its new number; and the locals by new number. How many they are.
+pub fn name_locals(sheet: AcceptedSheet<'_>, numbers: &mut [u16], order: &mut [u16]) -> usize
+    requires { NameRoom numbers.old order.old }
+    ensures { Named (staying_in sheet.entry.bytes.now) numbers.new order.new result }
+{
+    let names = Names::of(sheet);
+    let locals = names.locals();
+    for (i, &local) in locals.iter().enumerate() {
+        numbers[usize::from(local)] = (FIRST_NAME + i) as u16;
+        order[i] = local;
+    }
+    locals.len()
 }
