@@ -28,8 +28,8 @@ use Rattle.borrow_analysis.specs.Visiting.{ListedBelow, VisitsGrow, VisitsWritte
 use Rattle.borrow_analysis.specs.AncestorLaws.{collect_grows}
 use Rattle.borrow_analysis.specs.DyingLaws.{over_same, collect_depth}
 use Rattle.borrow_analysis.specs.VisitLaws.{parents_below}
-use Rattle.arrayvec.specs.ArrayVec.{ArrayVec}
 use Rattle.ancestors.specs.declared.Walk.{Walk}
+use Rattle.ancestors.specs.NodeList.{NodeList}
 use Rattle.ancestors.specs.Chains.{parent_at, child_at, NextFrom, Firsts}
 use Rattle.ancestors.specs.Ancestors.{WalkState, end_of, put, take_off, passed_over, first_new}
 use Rattle.ancestors.specs.Walking.{StateBelow, listed_by, state_of, rest_from, Scanned, ScansOn, Kept, Going, PutOn, Stepped, WalkSoFar, WalksSoFar}
@@ -161,7 +161,7 @@ module _ (xs : List ℕ) (used : ℕ) (w : Walk) (going : Going xs used w) (h : 
   pub end_kept : {at from : ℕ} → at ≡ x → from ≡ get_or w.scans at 0 → Scanned xs (mask w.nodes) used x from
   end_kept at is = subst (Scanned xs (mask w.nodes) used x) (sym (is ∙ ap (λ (j : ℕ). get_or w.scans j 0) at)) (going.scans.each x end_below)
 
-  pub stepped_off : {path : ArrayVec ℕ} → Scanned xs (mask w.nodes) used x (length xs / 3) → path.items ≡ take (length w.path.items - 1) w.path.items → Stepped xs used w (record w { path = path })
+  pub stepped_off : {path : NodeList} → Scanned xs (mask w.nodes) used x (length xs / 3) → path.items ≡ take (length w.path.items - 1) w.path.items → Stepped xs used w (record w { path = path })
   unfolding take_off
   stepped_off {path} scan is =
       let state : state_of (record w { path = path }) ≡ take_off (state_of w) = ap (λ (l : List ℕ). record { path = l; visited = listed_by w }) is in
@@ -213,6 +213,12 @@ module _ (xs : List ℕ) (used : ℕ) (inside : NodesBelow max_locals xs) where
       ∙ ap (rest_from (triples_of xs) used max_locals)
       (put_state xs used w₀ w₁ n w₀.scans g low new on ∙ ap (λ (l : List ℕ). put (record { path = l; visited = listed_by w₀ }) n) rest)
       ∙ rest_put (triples_of xs) used max_locals parents (listed_by w₀) n low g.fits.fair new
+
+  -- at a depth of c nodes, where these are all that the triples name and that are listed, it lists the same
+  pub walk_depth : {c : ℕ} {w₀ w₁ w : Walk} (n : ℕ) → NodesBelow c xs → c ≤ max_locals → ListedBelow c (listed_by w₀) → n < c → Going xs used w₀ → w₀.path.items ≡ [] → passed_over (mask w₀.nodes) used n ≡ false → PutOn w₀ n w₁
+      → WalkSoFar xs used w₁ w → w.path.items ≡ [] → listed_by w ≡ collect_ancestors c (triples_of xs) used (listed_by w₀) n
+  walk_depth {c} {w₀} {w₁} {w} n small few fair low g rest new on so e =
+      walk_whole n g rest (omega arith) new on so e ∙ sym (collect_depth (triples_of xs) used c (parents_below small) c max_locals (listed_by w₀) n low fair (omega arith) few)
 
 -- ---- the walks from the nodes of a set
 

@@ -14,12 +14,13 @@ ghost use Rattle.ancestors.specs.Ancestors.{end_of};
 ghost use Rattle.ancestors.specs.Walking.{listed_by, state_of, Going, PutOn, Stepped};
 
 use crate::chain::{Ways, chain};
-use arrayvec::ArrayVec;
+use crate::node_list::NodeList;
 use base::{MAX_LOCALS, MAX_TRIPLES};
 use borrow_analysis::triples::Triples;
 use dataflow_domains::LiveVarState;
 
 pub mod chain; // chain.rt: the triples, chained by the node that they lead to
+mod node_list; // node_list.rt: a list of nodes in an array
 
 // The nodes listed, and how many they are.
 #[derive(Clone, Copy)]
@@ -29,10 +30,10 @@ pub struct Visited {
 }
 
 // A state of the walk: the path from the node at which it began, the nodes listed, and for each node the place of its scan.
-#[derive(Drop)]
-struct Walk {
-    path: ArrayVec<u8, MAX_LOCALS>,
-    listed: ArrayVec<u8, MAX_LOCALS>,
+#[derive(Clone, Copy)]
+pub struct Walk {
+    path: NodeList,
+    listed: NodeList,
     nodes: LiveVarState,
     scans: [u16; MAX_LOCALS],
 }
@@ -119,8 +120,8 @@ pub fn collect_from(
     ensures fits { result.count ≤ length out.old }
 {
     let mut walk = Walk {
-        path: ArrayVec::new(),
-        listed: ArrayVec::new(),
+        path: NodeList::new(),
+        listed: NodeList::new(),
         nodes: LiveVarState::empty(),
         scans: [triples.count() as u16; MAX_LOCALS],
     };

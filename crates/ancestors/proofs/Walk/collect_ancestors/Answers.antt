@@ -22,22 +22,22 @@ loop-end-init c =
 
 pub step-requires : goal.step-requires
 step-requires c =
-    let last = last_is c.loop-end.self _ c.as_slice.ensures.value c.in-Some.ensures.value in
+    let last = last_is c.loop-end.self _ c.as_slice.ensures c.in-Some.ensures.value in
     record { going = c.loop-end.invariant.going; some = last.0; last = last.1 }
 
 pub loop-end-smaller : goal.loop-end-smaller
 loop-end-smaller c =
-    let last = last_is c.loop-end.self _ c.as_slice.ensures.value c.in-Some.ensures.value in
+    let last = last_is c.loop-end.self _ c.as_slice.ensures c.in-Some.ensures.value in
     omega (arith, (walk_step _ _ c.args.ways.triples.inside last.0 c.loop-end.invariant c.step.ensures).1)
 
 pub loop-end-preserved : goal.loop-end-preserved
 loop-end-preserved c =
-    let last = last_is c.loop-end.self _ c.as_slice.ensures.value c.in-Some.ensures.value in
+    let last = last_is c.loop-end.self _ c.as_slice.ensures c.in-Some.ensures.value in
     (walk_step _ _ c.args.ways.triples.inside last.0 c.loop-end.invariant c.step.ensures).0
 
 pub returns : goal.returns
 returns c =
     let p = c.requires in
     let so = c.loop-end.invariant in
-    let none = none_last c.as_slice.ensures.value c.in_default.ensures.value in
+    let none = none_last c.as_slice.ensures c.in_default.ensures.value in
     record { going = so.going; rests = none; listed = walk_whole _ _ c.args.ways.triples.inside _ p.going p.rests p.low (sym c.passes_over.ensures ∙ c.if-passes_over.false) c.put.ensures so none }

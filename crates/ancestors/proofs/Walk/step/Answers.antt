@@ -28,4 +28,4 @@ pub returns-in-None : goal.returns-in-None
 returns-in-None c =
     let p = c.requires in
     let from = end_kept _ _ _ p.going p.some p.last c.from-at.ensures c.from.ensures in
-    stepped_off _ _ _ p.going p.some p.last (c.in-None.ensures.none.each _ from) c.pop.ensures.rest
+    stepped_off _ _ _ p.going p.some p.last (c.in-None.ensures.none.each _ from) c.pop.ensures
