@@ -1,4 +1,5 @@
 -- What the public contracts and theorems say.
 pub mod Agree
 -- Laws.
+pub mod AgreeLaws
 pub mod PairLaws

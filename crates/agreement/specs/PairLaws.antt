@@ -1,8 +1,10 @@
--- The bytes of a table of 16-bit numbers. Assumes nothing.
-use Rattle.std.specs.Prelude.{ℕ, zero, suc, ◌+◌, ◌*◌, ◌%◌, ◌/◌, ◌≤◌, ◌<◌, ◌≡◌, refl, List, [], ◌∷◌, length, get_or, set}
-use Rattle.std.proofs.Common.{arith, sym, ap, ap₂, ◌∙◌}
+-- The bytes of a table of 16-bit numbers, and a call that is lent one. Assumes nothing.
+use Rattle.std.specs.Prelude.{ℕ, zero, suc, ◌+◌, ◌*◌, ◌%◌, ◌/◌, ◌≤◌, ◌<◌, ◌≡◌, ◌↔◌, refl, Bool, IsTrue, List, [], ◌∷◌, ◌++◌, length, get_or, take, drop, set}
+use Rattle.std.proofs.Common.{arith, sym, ap, ap₂, ◌∙◌, length-take-le}
 use Rattle.base.specs.WriteLaws.{wrote, wrote_more, wrote_all}
-use Rattle.agreement.specs.Agree.{pairs, at_front}
+use Rattle.base.specs.Refusals.{Reply, answer_of, output_after}
+use Rattle.c_api.specs.Packed.{packed}
+use Rattle.agreement.specs.Agree.{pairs, at_front, after, AgreesPairs}
 
 pub pairs_length : (xs : List ℕ) → length (pairs xs) ≡ 2 * length xs
 unfolding pairs
@@ -41,3 +43,16 @@ pub pairs_all : (d xs out : List ℕ) (i : ℕ) → i ≡ length xs → out ≡ 
 pairs_all d xs out i e q =
     let l : 2 * i ≡ length (pairs xs) = omega (arith, pairs_length xs) in
     q ∙ wrote_all d (pairs xs) (2 * i) l
+
+-- a call is lent the front of `table`, replies with `got` and leaves `last` there; its bytes are written over `out`, and b compares both
+pub agreed_pairs : (f : ℕ → Reply) (lent result got : ℕ) (table last out new want : List ℕ) (b : Bool) → lent ≤ length table
+    → got ≡ packed (answer_of (f (length (take lent table)))) → last ≡ output_after (f (length (take lent table))) (take lent table)
+    → new ≡ at_front (pairs (last ++ drop lent table)) out → (IsTrue b ↔ ((got ≡ result) × (new ≡ want)))
+    → (IsTrue b ↔ AgreesPairs (f lent) lent result table out want)
+agreed_pairs f lent result got table last out new want b h is kept bytes says =
+    let e : length (take lent table) ≡ lent = length-take-le lent table h in
+    let a : packed (answer_of (f lent)) ≡ got = ap (λ (n : ℕ). packed (answer_of (f n))) (sym e) ∙ sym is in
+    let o : at_front (pairs (after (f lent) lent table)) out ≡ new =
+    ap (λ (n : ℕ). at_front (pairs (output_after (f n) (take lent table) ++ drop lent table)) out) (sym e)
+    ∙ ap (λ (l : List ℕ). at_front (pairs (l ++ drop lent table)) out) (sym kept) ∙ sym bytes in
+    (λ t. record { answer = a ∙ (says.0 t).0; output = o ∙ (says.0 t).1 }, λ w. says.1 (sym a ∙ w.answer, sym o ∙ w.output))
