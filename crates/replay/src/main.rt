@@ -32,7 +32,7 @@ fn replayed(file: &[u8], row: Row) -> Option<Asked> {
     let s = unpack(row.second.part(file)?, &mut second)?;
     let w = unpack(row.written.part(file)?, &mut want)?;
     want[w..].fill(FILL);
-    let op = row.op?;
+    let op = row.op.ok()?;
     let stored = StoredCase {
         lent: row.lent,
         result: row.result,

@@ -1,8 +1,11 @@
 // The head and the rows of the file of stored answers. Assumes nothing.
-ghost use Rattle.std.specs.Prelude.{◌≡◌, ◌+◌, ◌*◌, ◌≤◌, length, ◌<◌, IfSome, IfNone};
-ghost use Rattle.base.specs.Bytes.{part};
+ghost use Rattle.std.specs.Prelude.{◌≡◌, ◌↔◌, ◌+◌, ◌*◌, ◌%◌, ◌≤◌, length, ◌<◌, get_or, IfSome, IfNone, IsTrue};
+ghost use Rattle.std.specs.Int.{w64, from_le_bytes};
+ghost use Rattle.base.specs.Bytes.{part, u32_at};
+ghost use Rattle.stored_cases.specs.Ops.{Decodes};
+ghost use Rattle.stored_cases.specs.Rows.{place_in};
 
-use crate::op::Op;
+use crate::op::{Op, UnknownOp};
 use sheet::reader::u32_at;
 
 pub const HEAD_BYTES: usize = 16;
@@ -26,10 +29,10 @@ impl Place {
     }
 }
 
-// A case: its op, if its number is one's, whether its answer was made wrong, how much is lent, the stored result, and where the three packed strings stand.
+// A case: its op, or a number that is none's, whether its answer was made wrong, how much is lent, the stored result, and where the three packed strings stand.
 #[derive(Clone, Copy)]
 pub struct Row {
-    pub op: Option<Op>,
+    pub op: Result<Op, UnknownOp>,
     pub wrong: bool,
     pub lent: usize,
     pub result: u64,
@@ -56,6 +59,7 @@ pub fn cases_in(file: &[u8]) -> Option<usize>
 // The place in the eight bytes from `at` on.
 fn place_at(p: &[u8], at: usize) -> Place
     requires { at + 8 ≤ length p.now }
+    ensures { result ≡ place_in p.now at }
 {
     Place {
         from: u32_at(p, at) as usize,
@@ -66,9 +70,16 @@ fn place_at(p: &[u8], at: usize) -> Place
 // The case that a row's bytes are.
 pub fn row_of(p: &[u8]) -> Row
     requires { length p.now ≡ 40 }
+    ensures op { Decodes (get_or p.now 0 0 % 128) result.op }
+    ensures wrong { IsTrue result.wrong ↔ (128 ≤ get_or p.now 0 0) }
+    ensures lent { result.lent ≡ u32_at p.now 4 }
+    ensures result { result.result ≡ from_le_bytes w64 (part p.now 8 8) }
+    ensures input { result.input ≡ place_in p.now 16 }
+    ensures second { result.second ≡ place_in p.now 24 }
+    ensures written { result.written ≡ place_in p.now 32 }
 {
     Row {
-        op: Op::try_from(p[0] % 128).ok(),
+        op: Op::try_from(p[0] % 128),
         wrong: p[0] >= 128,
         lent: u32_at(p, 4) as usize,
         result: u64::from_le_bytes(*p[8..].first_chunk().unwrap()),

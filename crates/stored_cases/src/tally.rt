@@ -1,5 +1,6 @@
 // Counts of what came, and what is printed. Assumes nothing.
-ghost use Rattle.std.specs.Prelude.{◌≡◌};
+ghost use Rattle.std.specs.Prelude.{◌≡◌, get_or};
+ghost use Rattle.stored_cases.specs.Ops.{number_of};
 ghost use Rattle.stored_cases.specs.Tallies.{more, no_cases, differing, counted};
 
 use crate::op::Op;
@@ -65,7 +66,7 @@ impl Tally {
     }
 
     // A line on case k that counts as a difference.
-    fn difference(&mut self, rt: &impl Print, said: &str, k: usize) -> io::Result<()>
+    pub fn difference(&mut self, rt: &impl Print, said: &str, k: usize) -> io::Result<()>
         ensures { self.new ≡ differing self.old }
     {
         add(&mut self.differences);
@@ -95,9 +96,16 @@ impl Tally {
         Ok(())
     }
 
+    // The cases of an op.
+    pub fn count_of(&self, op: Op) -> u32
+        ensures { result ≡ get_or self.now.of_op (number_of op) 0 }
+    {
+        self.of_op[op as usize]
+    }
+
     pub fn print(&self, rt: &impl Print) -> io::Result<()> {
         for (op, name, asked) in LINES {
-            println!(rt; "{name} {} {asked}", self.of_op[op as usize])?;
+            println!(rt; "{name} {} {asked}", self.count_of(op))?;
         }
         println!(rt; "{} cases, {} differences", self.cases, self.differences)?;
         println!(rt; "{} made wrong, {} found", self.wrong, self.found)
