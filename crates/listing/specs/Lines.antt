@@ -6,7 +6,7 @@ use Rattle.base.specs.Refusals.{number_of, place_of, Verdict, lends, Reply, Done
 use Rattle.sheet.specs.Layout.{code_of, locals_of}
 use Rattle.sheet.specs.Checks.{check_sheet}
 use Rattle.livevar_analysis.specs.Analysis.{LiveVarInfo, Analyzed, analyze}
-use Rattle.listing.specs.Words.{hex, said}
+use Rattle.listing.specs.Words.{hex, decimal_in, said}
 
 -- ---- lines
 
@@ -28,6 +28,10 @@ text_of line infos taken = lines line 0 infos ++ said (codes "taken ") taken ++ 
 -- of a refused one: one line, of the refusal's number and its place
 unfoldable pub refused_numbers : ℕ → ℕ → List ℕ
 refused_numbers num place = said (codes "refused ") num ++ said (codes " ") place ++ codes "\n"
+
+-- the same, of no more than the last d digits of each number
+unfoldable pub refused_last : ℕ → ℕ → ℕ → List ℕ
+refused_last d num place = codes "refused " ++ decimal_in d num ++ (codes " " ++ decimal_in d place) ++ codes "\n"
 
 unfoldable pub refused_text : Refusal → List ℕ
 refused_text e = refused_numbers (number_of e) (place_of e)

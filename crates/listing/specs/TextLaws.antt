@@ -22,8 +22,8 @@ use Rattle.livevar_analysis.specs.InputLaws.{few_count}
 use Rattle.livevar_analysis.specs.OutputLaws.{live_read}
 use Rattle.livevar_analysis.specs.Prepared.{LiveWritten}
 use Rattle.listing.specs.Words.{hex, said}
-use Rattle.listing.specs.Lines.{line, lines, text_of, refused_numbers, refused_text, printed, livelist, line_bytes, taken_bytes, text_bytes, livelist_reply}
-use Rattle.listing.specs.NumberLaws.{decimal_most, decimal_twenty, hex_length}
+use Rattle.listing.specs.Lines.{line, lines, text_of, refused_numbers, refused_last, refused_text, printed, livelist, line_bytes, taken_bytes, text_bytes, livelist_reply}
+use Rattle.listing.specs.NumberLaws.{decimal_most, decimal_last, last_most, hex_length}
 
 -- ---- one line more
 
@@ -133,12 +133,16 @@ taken_few s e =
     let width : locals_of s + 1 ≤ max_locals + 1 = omega (arith, (accepted_valid s e).locals) in
     omega (arith, mul-le-mul blocks width, (term3 s e).taken.bound)
 
--- lines of at most m bytes each, and a count of ten digits
+-- lines of at most m bytes each, and a count of at most ten digits
+pub text_digits_most : (line : ℕ → LiveVarInfo → List ℕ) (m : ℕ) → ((k : ℕ) (i : LiveVarInfo) → k < max_instructions → length (line k i) ≤ m)
+    → (is : List LiveVarInfo) (t : ℕ) → length is ≤ max_instructions → length (decimal t) ≤ 10 → length (text_of line is t) ≤ length is * m + taken_bytes
+unfolding text_of
+text_digits_most line m each is t h digits = omega (arith, length-append {A = ℕ}, lines_most line m each 0 is (omega arith), digits)
+
+-- a count of as many as the work list has room for
 pub text_most : (line : ℕ → LiveVarInfo → List ℕ) (m : ℕ) → ((k : ℕ) (i : LiveVarInfo) → k < max_instructions → length (line k i) ≤ m)
     → (is : List LiveVarInfo) (t : ℕ) → length is ≤ max_instructions → t ≤ max_taken → length (text_of line is t) ≤ length is * m + taken_bytes
-unfolding text_of
-text_most line m each is t h few =
-    omega (arith, length-append {A = ℕ}, lines_most line m each 0 is (omega arith), length-decimal-le 10 t (omega arith) (omega arith) (omega arith))
+text_most line m each is t h few = text_digits_most line m each is t h (length-decimal-le 10 t (omega arith) (omega arith) (omega arith))
 
 number_low : (e : Refusal) → number_of e < 19
 number_low Length = omega arith
@@ -165,10 +169,19 @@ pub refused_short : (e : Refusal) → length (refused_text e) ≤ 138
 unfolding refused_text refused_numbers
 refused_short e = simp length-append (omega (arith, decimal_most (number_of e), decimal_most (place_of e)))
 
--- and of numbers of at most 20 digits
+-- of any two numbers, of no more than the last 20 digits of each
+pub refused_last_short : (num place : ℕ) → length (refused_last 20 num place) ≤ 50
+unfolding refused_last
+refused_last_short num place = simp length-append (omega (arith, last_most num, last_most place))
+
+-- which are all where the numbers have at most 20 digits
+pub refused_last_all : (num place : ℕ) → num < 10 ^ 20 → place < 10 ^ 20 → refused_numbers num place ≡ refused_last 20 num place
+unfolding refused_numbers refused_last
+refused_last_all num place h j =
+    ap₂ (λ (n p : List ℕ). codes "refused " ++ n ++ (codes " " ++ p) ++ codes "\n") (decimal_last num h) (decimal_last place j)
+
 pub refused_numbers_short : (num place : ℕ) → num < 10 ^ 20 → place < 10 ^ 20 → length (refused_numbers num place) ≤ 50
-unfolding refused_numbers
-refused_numbers_short num place h j = simp length-append (omega (arith, decimal_twenty num h, decimal_twenty place j))
+refused_numbers_short num place h j = omega (arith, ap length (refused_last_all num place h j), refused_last_short num place)
 
 pub refused_short_20 : (e : Refusal) → place_of e < 10 ^ 20 → length (refused_text e) ≤ 50
 unfolding refused_text

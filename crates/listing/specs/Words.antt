@@ -1,5 +1,5 @@
 -- Words and numbers in text. Assumes nothing.
-use Rattle.std.specs.Prelude.{ℕ, ◌+◌, ◌-◌, ◌*◌, ◌/◌, ◌%◌, ◌^◌, cond, List, ◌++◌, ltb, decimal}
+use Rattle.std.specs.Prelude.{ℕ, zero, suc, ◌+◌, ◌-◌, ◌*◌, ◌/◌, ◌%◌, ◌^◌, true, false, cond, List, [], ◌∷◌, ◌++◌, ltb, decimal}
 use Rattle.base.specs.Sizes.{set_bytes}
 use Rattle.base.specs.Lists.{tab}
 
@@ -17,3 +17,8 @@ hex x = tab (2 * set_bytes) 0 (λ i. hex_digit (x / 16 ^ (2 * set_bytes - 1 - i)
 
 abbrev pub said : List ℕ → ℕ → List ℕ
 said w x = w ++ decimal x
+
+-- the last d digits of a number, or all where it has no more
+unfoldable pub decimal_in : ℕ → ℕ → List ℕ
+decimal_in zero x = []
+decimal_in (suc d) x = elim (ltb x 10) [ true ↦ (48 + x) ∷ [] | false ↦ decimal_in d (x / 10) ++ ((48 + x % 10) ∷ []) ]
