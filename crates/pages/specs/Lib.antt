@@ -1,5 +1,6 @@
 -- What the public contracts and theorems say.
 pub mod Words
+pub mod Bars
 pub mod Code
 pub mod Size
 pub mod Page
@@ -7,6 +8,7 @@ pub mod Page
 pub mod Marks
 -- Laws.
 pub mod WordLaws
+pub mod BarLaws
 pub mod CodeLaws
 pub mod SectionLaws
 pub mod UnnamedLaws

@@ -1,5 +1,5 @@
 -- Marks at the Labels that are named, made slot by slot, and the texts of those that have none. Assumes nothing.
-use Rattle.std.specs.Prelude.{◌≡◌, ℕ, ◌*◌, ◌<◌, Bool, true, false, cond, not, ◌&&◌, eqb, get_or, length, take, List, [], codes}
+use Rattle.std.specs.Prelude.{◌≡◌, ℕ, ◌<◌, Bool, true, false, cond, not, ◌&&◌, eqb, get_or, length, take, List, [], codes}
 use mathlib.Core.List.{Memᴰ}
 use Rattle.base.specs.Lists.{gather}
 use Rattle.stackless_bytecode.specs.declared.Bytecode.{Bytecode}
@@ -7,7 +7,6 @@ use Rattle.stackless_bytecode.specs.declared.Lookup.TheVariants.{Named}
 use Rattle.stackless_bytecode.specs.Kinds.{Label, at, label_of}
 use Rattle.stackless_bytecode.specs.Labels.{lookup, is_named}
 use Rattle.stackless_bytecode.specs.Slots.{no_label, slot_at}
-use Rattle.stackless_bytecode.specs.SlotLaws.{LabelsBelow}
 use Rattle.listing.specs.Words.{said}
 use Rattle.pages.specs.Page.{unnamed_text}
 
@@ -17,7 +16,6 @@ use Rattle.pages.specs.Page.{unnamed_text}
 pub record MarkedTo (code : List Bytecode) (targets : List ℕ) (e : ℕ) (marks : List Bool) : Type 0 where
   pub sound : (o : ℕ) → get_or marks o false ≡ true → (l : ℕ) × (lookup code l ≡ Named o)
   pub done : (i : ℕ) → i < e → slot_at code i < no_label → get_or marks (get_or targets i 0) false ≡ true
-  pub below : (k : ℕ) → 2 * k < e → LabelsBelow (at code k)
 
 -- a mark at a Label that is named, and none at another
 pub record NamedMarks (code : List Bytecode) (marks : List Bool) : Type 0 where

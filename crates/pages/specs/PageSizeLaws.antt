@@ -4,7 +4,8 @@ use Rattle.std.proofs.Common.{ap, arith, length-append}
 use mathlib.Core.List.Memᴰ
 use mathlib.Core.List.{Memᴰ}
 use Rattle.std.proofs.Math.ListN.{get_or-eq_default}
-use Rattle.base.specs.Sizes.{row_numbers, max_number, max_instructions, max_taken, max_bytes}
+use Rattle.std.proofs.lemmas.Fmt.{length-decimal-le}
+use Rattle.base.specs.Sizes.{row_numbers, max_number, max_instructions, max_bytes}
 use Rattle.base.specs.Lists.{joins, gather, place}
 use Rattle.base.specs.ListLaws.{by_test, get_d_in, in_take, in_drop, in_map, in_gather, in_get_d}
 use Rattle.base.specs.JoinLaws.{by_lt}
@@ -32,11 +33,11 @@ use Rattle.livevar_transform.specs.Rewrite.{rewrite_reply}
 use Rattle.livevar_transform.specs.RewriteAcceptedLaws.{rewritten_accepted}
 use Rattle.listing.specs.Words.{hex, said}
 use Rattle.listing.specs.NumberLaws.{hex_length}
-use Rattle.listing.specs.TextLaws.{text_most, taken_few, refused_short}
+use Rattle.listing.specs.TextLaws.{text_digits_most, taken_few, refused_short}
 use Rattle.pages.specs.Words.{marked}
 use Rattle.pages.specs.Code.{locals_in, code_text}
 use Rattle.pages.specs.Page.{block_line, block_lines, flow_text, unnamed_text, unnamed_labels, unnamed_line, set_text, live_line, live_text, rewritten_text, sections, page_by, page}
-use Rattle.pages.specs.Size.{number_digits, code_bytes, block_line_bytes, unnamed_bytes, flow_bytes, set_text_bytes, live_line_bytes, live_text_bytes, page_bytes}
+use Rattle.pages.specs.Size.{number_digits, payload_digits, code_bytes, block_line_bytes, unnamed_bytes, flow_bytes, set_text_bytes, live_line_bytes, live_text_bytes, page_bytes}
 use Rattle.pages.specs.LineSizeLaws.{number_most, said_most, cond_most, marked_most, joins_most, locals_most, code_most}
 
 -- ---- the numbers of the flow table
@@ -171,9 +172,9 @@ live_line_most k i h =
       set_most i.after,
     )
 
-live_most : (is : List LiveVarInfo) (t : ℕ) → length is ≤ max_instructions → t ≤ max_taken → length (live_text is t) ≤ live_text_bytes
+live_most : (is : List LiveVarInfo) (t : ℕ) → length is ≤ max_instructions → length (decimal t) ≤ payload_digits → length (live_text is t) ≤ live_text_bytes
 unfolding live_text
-live_most is t h few = omega (arith, h, text_most live_line live_line_bytes live_line_most is t h few)
+live_most is t h digits = omega (arith, h, text_digits_most live_line live_line_bytes live_line_most is t h digits)
 
 -- ---- the page
 
@@ -207,7 +208,7 @@ module _ (s : List ℕ) (bytes : Bytes s) (accepted : check_sheet s ≡ Accepted
         code_most s bytes accepted,
         flow_most (blocks_of (code_of s)) (flow_table (code_of s)) (omega (arith, blocks_few (code_of s), few)) (table_low (code_of s) (code_sound s accepted) few),
         unnamed_most (code_of s) (accepted_body s bytes accepted).encodes few,
-        live_most live.info live.taken (omega (arith, (term3 s accepted).count, few)) (taken_few s accepted),
+        live_most live.info live.taken (omega (arith, (term3 s accepted).count, few)) (length-decimal-le 10 live.taken (omega arith) (omega (arith, taken_few s accepted)) (omega (arith, taken_few s accepted))),
         rewritten_most (rewrite_reply s max_bytes) refl,
       )
 

@@ -17,6 +17,7 @@ use Rattle.stackless_bytecode.specs.SlotLaws.{LabelsBelow, slot_names}
 use Rattle.stackless_bytecode.specs.Successors.{Unique}
 use Rattle.sheet.specs.declared.accepted.ResolvedSheet.{ResolvedSheet}
 use Rattle.sheet.specs.Code.{code_in}
+use Rattle.sheet.specs.LabelLaws.{code_below}
 use Rattle.sheet.specs.ValidLaws.{accepted_valid}
 use Rattle.listing.specs.Words.{said}
 use Rattle.pages.specs.Page.{unnamed_text, unnamed_labels}
@@ -59,23 +60,18 @@ name_slot code k l h i =
     let b : (2 * k + p.0) % 2 ≡ p.0 = omega arith in
     (2 * k + p.0, omega arith, ap (λ (x : ℕ). get_or (branch_dests (at code x)) ((2 * k + p.0) % 2) no_label) a ∙ ap (λ (x : ℕ). get_or (branch_dests (at code k)) x no_label) b ∙ p.2)
 
-module _ (code : List Bytecode) (targets : List ℕ) (resolved : Resolved code targets) where
-  -- slot e of an instruction whose labels are numbers
-  module _ (e : ℕ) (h : e < 2 * length code) (low : LabelsBelow (at code (e / 2))) where
+module _ (code : List Bytecode) (below : (k : ℕ) → k < length code → LabelsBelow (at code k)) (targets : List ℕ) (resolved : Resolved code targets) where
+  module _ (e : ℕ) (h : e < 2 * length code) where
     slot_named : (slot_at code e ≡ no_label → ⊥) → lookup code (slot_at code e) ≡ Named (get_or targets e 0)
-    slot_named g = let n = slot_names code e (slot_at code e) refl g in resolved.each e h (dests_below (at code (e / 2)) (slot_at code e) low n.1)
+    slot_named g = let n = slot_names code e (slot_at code e) refl g in resolved.each e h (dests_below (at code (e / 2)) (slot_at code e) (below (e / 2) n.0) n.1)
 
     -- a label is named at an offset of the code
     target_inside : (slot_at code e ≡ no_label → ⊥) → get_or targets e 0 < length code
     target_inside g = let is = slot_named g in omega (arith, (defined code (slot_at code e) (ap is_defined is)).inside, ap offset_of is)
 
-    below_more : {marks : List Bool} → MarkedTo code targets e marks → (k : ℕ) → 2 * k < e + 1 → LabelsBelow (at code k)
-    below_more m k i =
-        by_eq (2 * k) e (λ q. let here : e / 2 ≡ k = omega arith in subst (λ (x : ℕ). LabelsBelow (at code x)) here low) (λ q. m.below k (omega arith))
-
     -- it names nothing, and it names a label
     names_skip : {marks : List Bool} → slot_at code e ≡ no_label → MarkedTo code targets e marks → MarkedTo code targets (e + 1) marks
-    names_skip q m = record { sound = m.sound; done = λ i d l. by_eq i e (λ s. absurd (omega (arith, q, ap (slot_at code) s))) (λ s. m.done i (omega arith) l); below = below_more m }
+    names_skip q m = record { sound = m.sound; done = λ i d l. by_eq i e (λ s. absurd (omega (arith, q, ap (slot_at code) s))) (λ s. m.done i (omega arith) l) }
 
     names_put : {marks : List Bool} → (slot_at code e ≡ no_label → ⊥) → length code ≤ length marks → MarkedTo code targets e marks → MarkedTo code targets (e + 1) (set marks (get_or targets e 0) true)
     names_put {marks} named room m =
@@ -85,7 +81,6 @@ module _ (code : List Bytecode) (targets : List ℕ) (resolved : Resolved code t
           sound = λ j t. by_eq j o (λ s. (slot_at code e, slot_named named ∙ ap Named (sym s))) (λ s. m.sound j (sym (get_or-set_other marks o j true false s) ∙ t));
           done = λ i d l. by_eq (get_or targets i 0) o (λ s. ap (λ (x : ℕ). get_or (set marks o true) x false) s ∙ get_or-set_same marks o true false inside)
               (λ s. get_or-set_other marks o (get_or targets i 0) true false s ∙ by_eq i e (λ t. absurd (s (ap (λ (x : ℕ). get_or targets x 0) t))) (λ t. m.done i (omega arith) l));
-          below = below_more m;
         }
 
   -- all slots are passed: a Label is marked where it is named
@@ -98,7 +93,7 @@ module _ (code : List Bytecode) (targets : List ℕ) (resolved : Resolved code t
       on : (k l : ℕ) → k < length code → Memᴰ l (label_of (at code k)) → is_named (lookup code l) ≡ true → get_or marks k false ≡ true
       on k l h i t =
           let by = named_by code l t in
-          let low : l < no_label = dests_below (at code by.0) l (m.below by.0 (omega (arith, by.1))) by.2 in
+          let low : l < no_label = dests_below (at code by.0) l (below by.0 by.1) by.2 in
           let e = name_slot code by.0 l by.1 by.2 in
           let is = resolved.each e.0 e.1 (omega (arith, e.2)) in
           let there : get_or targets e.0 0 ≡ k = sym (ap offset_of is) ∙ ap (label_offset code) e.2 ∙ offset_is code once k l h i in
@@ -115,22 +110,25 @@ module _ (code : List Bytecode) (targets : List ℕ) (resolved : Resolved code t
 
 -- none is marked yet
 pub marks_none : (code : List Bytecode) (targets : List ℕ) (marks : List Bool) → ((o : ℕ) → get_or marks o false ≡ false) → MarkedTo code targets 0 marks
-marks_none code targets marks z = record { sound = λ o t. absurd (true≢false (sym t ∙ z o)); done = λ i h. absurd (omega arith); below = λ k h. absurd (omega arith) }
+marks_none code targets marks z = record { sound = λ o t. absurd (true≢false (sym t ∙ z o)); done = λ i h. absurd (omega arith) }
 
 -- ---- of an accepted sheet
 
 module _ (sheet : ResolvedSheet) where
+  below : (k : ℕ) → k < length (code_in sheet) → LabelsBelow (at (code_in sheet) k)
+  below k h = code_below sheet.shaped sheet.fits.each k (omega (arith, sheet.size))
+
   -- what is read of slot e
-  module _ (e : ℕ) (h : e < 2 * sheet.count) (r : Bytecode) (read : r ≡ at (code_in sheet) (e / 2)) (low : LabelsBelow r) where
+  module _ (e : ℕ) (h : e < 2 * sheet.count) (r : Bytecode) (read : r ≡ at (code_in sheet) (e / 2)) where
     size : e < 2 * length (code_in sheet)
     size = omega (arith, sheet.size)
-
-    here : LabelsBelow (at (code_in sheet) (e / 2))
-    here = subst LabelsBelow read low
 
     slot : slot_at (code_in sheet) e ≡ get_or (branch_dests r) (e % 2) no_label
     unfolding slot_at
     slot = ap (λ (x : Bytecode). get_or (branch_dests x) (e % 2) no_label) (sym read)
+
+    low : LabelsBelow r
+    low = subst LabelsBelow (sym read) (below (e / 2) (omega (arith, sheet.size)))
 
     named : is_some (slice_get (branch_dests r) (e % 2)) ≡ true → slot_at (code_in sheet) e ≡ no_label → ⊥
     named q t =
@@ -138,21 +136,21 @@ module _ (sheet : ResolvedSheet) where
         omega (arith, dests_below r v.0 low (slice_get_in (branch_dests r) (e % 2) v.0 v.1), sym (get_or_from_slice_get (branch_dests r) (e % 2) v.0 no_label v.1) ∙ sym slot ∙ t)
 
     pub mark_inside : is_some (slice_get (branch_dests r) (e % 2)) ≡ true → get_or sheet.targets.now e 0 < sheet.count
-    mark_inside q = omega (arith, sheet.size, target_inside (code_in sheet) sheet.targets.now sheet.checked.resolved e size here (named q))
+    mark_inside q = omega (arith, sheet.size, target_inside (code_in sheet) below sheet.targets.now sheet.checked.resolved e size (named q))
 
     module _ {marks : List Bool} (m : MarkedTo (code_in sheet) sheet.targets.now e marks) where
       pub mark_put : is_some (slice_get (branch_dests r) (e % 2)) ≡ true → sheet.count ≤ length marks → MarkedTo (code_in sheet) sheet.targets.now (e + 1) (set marks (get_or sheet.targets.now e 0) true)
-      mark_put q room = names_put (code_in sheet) sheet.targets.now sheet.checked.resolved e size here (named q) (omega (arith, sheet.size)) m
+      mark_put q room = names_put (code_in sheet) below sheet.targets.now sheet.checked.resolved e size (named q) (omega (arith, sheet.size)) m
 
       pub mark_skip : is_some (slice_get (branch_dests r) (e % 2)) ≡ false → MarkedTo (code_in sheet) sheet.targets.now (e + 1) marks
       mark_skip q =
           let none = no_value (slice_get (branch_dests r) (e % 2)) q in
-          names_skip (code_in sheet) sheet.targets.now sheet.checked.resolved e size here
+          names_skip (code_in sheet) below sheet.targets.now sheet.checked.resolved e size
           (slot ∙ sym (unwrap_or-slice_get (branch_dests r) (e % 2) no_label) ∙ ap (λ (x : Option ℕ). unwrap_or x no_label) none) m
 
   pub mark_end : {e : ℕ} {marks : List Bool} → e ≡ 2 * sheet.count → MarkedTo (code_in sheet) sheet.targets.now e marks → NamedMarks (code_in sheet) marks
   mark_end {e} {marks} is m =
-      names_end (code_in sheet) sheet.targets.now sheet.checked.resolved (accepted_valid sheet.bytes.now sheet.checked.accepted).once marks
+      names_end (code_in sheet) below sheet.targets.now sheet.checked.resolved (accepted_valid sheet.bytes.now sheet.checked.accepted).once marks
       (subst (λ (x : ℕ). MarkedTo (code_in sheet) sheet.targets.now x marks) (is ∙ ap (λ (x : ℕ). 2 * x) (sym sheet.size)) m)
 
 -- ---- one instruction's text

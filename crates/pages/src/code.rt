@@ -1,31 +1,24 @@
 // A sheet's code as text: its heading, and a line for each instruction. Assumes nothing.
-ghost use Rattle.std.specs.Prelude.{◌≡◌, ◌<◌, ◌≤◌, length, take};
+ghost use Rattle.std.specs.Prelude.{◌≡◌, ◌<◌, ◌≤◌, length};
 ghost use Rattle.base.specs.Bytes.{number};
 ghost use Rattle.base.specs.Sizes.{set_bytes, block_bytes};
 ghost use Rattle.listing.specs.Writer.{◌with_text◌};
 ghost use Rattle.pages.specs.Code.{destinations, labels, sources, aborting, does, takes, code_line, locals_in, counts, heading_text, code_text};
 
 use crate::names::{name, verb};
-use crate::words::{put_listed, put_mark};
-use base::{LIST_PLACES, MAX_LOCALS, REFS_AT, REFS_END};
+use crate::words::{put_first, put_mark};
+use base::{MAX_LOCALS, REFS_AT, REFS_END};
 use dataflow_domains::LiveVarState;
 use listing::writer::Writer;
 use sheet::accepted::AcceptedSheet;
 use sheet::reader::{locals_of, parameters_of, user_locals_of};
 use stackless_bytecode::{Bytecode, Kind};
 
-// The first n places of a list, or all that it has.
-fn first_places(places: &[u8; LIST_PLACES], n: u8) -> &[u8]
-    ensures { result.now ≡ take n places.now }
-{
-    &places[..LIST_PLACES.min(usize::from(n))]
-}
-
 #[tactic(auto, using(listing::specs::WriterLaws::texts), unfolding(crate::specs::Code::destinations, stackless_bytecode::specs::Kinds::dsts_of))]
 fn put_destinations(r: Bytecode, out: &mut Writer)
     ensures { out.new ≡ out.old with_text destinations r }
 {
-    put_listed(b"t", b" ", first_places(&r.dsts, r.ndst), out);
+    put_first(b"t", b" ", &r.dsts, usize::from(r.ndst), out);
     if r.ndst != 0 {
         out.put(b"<- ");
     }
@@ -48,7 +41,7 @@ fn put_labels(r: Bytecode, out: &mut Writer)
 fn put_sources(r: Bytecode, out: &mut Writer)
     ensures { out.new ≡ out.old with_text sources r }
 {
-    put_listed(b" t", b"", first_places(&r.srcs, r.nsrc), out);
+    put_first(b" t", b"", &r.srcs, usize::from(r.nsrc), out);
 }
 
 #[tactic(auto, using(listing::specs::WriterLaws::texts), unfolding(crate::specs::Code::aborting))]

@@ -1,5 +1,5 @@
 // Words and numbers behind them. Assumes nothing.
-ghost use Rattle.std.specs.Prelude.{◌≡◌, map};
+ghost use Rattle.std.specs.Prelude.{◌≡◌, map, take};
 ghost use Rattle.listing.specs.Writer.{◌with_text◌};
 ghost use Rattle.pages.specs.Words.{word, marked, listed};
 
@@ -34,4 +34,11 @@ pub fn put_listed(before: &[u8], behind: &[u8], xs: &[u8], out: &mut Writer)
         out.put_number(before, u32::from(x));
         out.put(behind);
     }
+}
+
+// The first n of them, or all where there are no more.
+pub fn put_first(before: &[u8], behind: &[u8], xs: &[u8], n: usize, out: &mut Writer)
+    ensures { out.new ≡ out.old with_text listed before.now behind.now (take n xs.now) }
+{
+    put_listed(before, behind, &xs[..n.min(xs.len())], out);
 }
