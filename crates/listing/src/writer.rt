@@ -8,7 +8,6 @@ ghost use Rattle.listing.specs.Words.{hex, hex_digit, said};
 ghost use Rattle.listing.specs.Writer.{◌with_text◌, at_front};
 
 use base::SET_BYTES;
-use itoa::Buffer;
 
 // A lent slice, and the next place in it to write. What finds no room is dropped.
 #[derive(Drop)]
@@ -70,11 +69,16 @@ impl<'a> Writer<'a> {
         }
     }
 
-    // A number in decimal.
+    // A number in decimal: the digits in front of the last one, and the last one. (The crate itoa takes twice the instructions on numbers of a few digits.)
     pub fn put_decimal(&mut self, x: u32)
         ensures { self.new ≡ self.old with_text decimal x }
     {
-        self.put(Buffer::new().format(x).as_bytes());
+        if x < 10 {
+            self.put_byte(b'0' + x as u8);
+        } else {
+            self.put_decimal(x / 10);
+            self.put_byte(b'0' + (x % 10) as u8);
+        }
     }
 
     // A word and a number.
