@@ -40,7 +40,7 @@ fn give_block(keys: &mut Numbering<FIRST_KEY, MAX_INSTRUCTIONS>, next: Successor
 }
 
 // Keys for all blocks: blocks by offset, at each its successors, then the block.
-fn give_all(keys: &mut Numbering<FIRST_KEY, MAX_INSTRUCTIONS>, blocks: Blocks<'_>)
+pub fn give_all(keys: &mut Numbering<FIRST_KEY, MAX_INSTRUCTIONS>, blocks: Blocks<'_>)
     requires { keys.old ≡ [] }
     ensures { keys.new ≡ keyed (code_in blocks.entry.sheet) }
 {
