@@ -180,6 +180,7 @@ unfolding refused_numbers refused_last
 refused_last_all num place h j =
     ap₂ (λ (n p : List ℕ). codes "refused " ++ n ++ (codes " " ++ p) ++ codes "\n") (decimal_last num h) (decimal_last place j)
 
+-- and of numbers of at most 20 digits
 pub refused_numbers_short : (num place : ℕ) → num < 10 ^ 20 → place < 10 ^ 20 → length (refused_numbers num place) ≤ 50
 refused_numbers_short num place h j = omega (arith, ap length (refused_last_all num place h j), refused_last_short num place)
 
