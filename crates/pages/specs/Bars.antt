@@ -18,9 +18,11 @@ unfoldable pub words_of : List ℕ → List (List ℕ)
 words_of [] = []
 words_of (b ∷ bs) = cond (eqb b 124) ([] ∷ words_of bs) (in_front b (words_of bs))
 
+-- what an instruction of each kind begins with
 abbrev pub barred_verbs : List ℕ
 barred_verbs = codes "|call |ret|load |branch|jump|label|abort|nop|savemem|savespecvar|prop |"
 
+-- the names of an Assign, a Call, a Load and a Prop
 abbrev pub barred_assigns : List ℕ
 barred_assigns = codes "copy|move|store|"
 

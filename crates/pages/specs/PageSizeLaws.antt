@@ -172,6 +172,7 @@ live_line_most k i h =
       set_most i.after,
     )
 
+-- the live sets, with a count of at most ten digits
 live_most : (is : List LiveVarInfo) (t : ℕ) → length is ≤ max_instructions → length (decimal t) ≤ payload_digits → length (live_text is t) ≤ live_text_bytes
 unfolding live_text
 live_most is t h digits = omega (arith, h, text_digits_most live_line live_line_bytes live_line_most is t h digits)

@@ -135,19 +135,23 @@ module _ (sheet : ResolvedSheet) where
         let v = some_value (slice_get (branch_dests r) (e % 2)) q in
         omega (arith, dests_below r v.0 low (slice_get_in (branch_dests r) (e % 2) v.0 v.1), sym (get_or_from_slice_get (branch_dests r) (e % 2) v.0 no_label v.1) ∙ sym slot ∙ t)
 
+    -- the offset of a label that it names is one of the code
     pub mark_inside : is_some (slice_get (branch_dests r) (e % 2)) ≡ true → get_or sheet.targets.now e 0 < sheet.count
     mark_inside q = omega (arith, sheet.size, target_inside (code_in sheet) below sheet.targets.now sheet.checked.resolved e size (named q))
 
     module _ {marks : List Bool} (m : MarkedTo (code_in sheet) sheet.targets.now e marks) where
+      -- that offset is marked
       pub mark_put : is_some (slice_get (branch_dests r) (e % 2)) ≡ true → sheet.count ≤ length marks → MarkedTo (code_in sheet) sheet.targets.now (e + 1) (set marks (get_or sheet.targets.now e 0) true)
       mark_put q room = names_put (code_in sheet) below sheet.targets.now sheet.checked.resolved e size (named q) (omega (arith, sheet.size)) m
 
+      -- it names nothing, and no mark is made
       pub mark_skip : is_some (slice_get (branch_dests r) (e % 2)) ≡ false → MarkedTo (code_in sheet) sheet.targets.now (e + 1) marks
       mark_skip q =
           let none = no_value (slice_get (branch_dests r) (e % 2)) q in
           names_skip (code_in sheet) below sheet.targets.now sheet.checked.resolved e size
           (slot ∙ sym (unwrap_or-slice_get (branch_dests r) (e % 2) no_label) ∙ ap (λ (x : Option ℕ). unwrap_or x no_label) none) m
 
+  -- all slots are passed
   pub mark_end : {e : ℕ} {marks : List Bool} → e ≡ 2 * sheet.count → MarkedTo (code_in sheet) sheet.targets.now e marks → NamedMarks (code_in sheet) marks
   mark_end {e} {marks} is m =
       names_end (code_in sheet) below sheet.targets.now sheet.checked.resolved (accepted_valid sheet.bytes.now sheet.checked.accepted).once marks
