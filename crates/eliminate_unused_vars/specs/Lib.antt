@@ -2,8 +2,8 @@
 pub mod Remap
 pub mod Renumber
 pub mod Renumbered
-pub mod Names
 -- What the inner contracts say.
+pub mod Names
 pub mod Remaps
 -- Laws.
 pub mod MoreListLaws

@@ -137,14 +137,14 @@ rule_put rules k rule inside =
       killed = ap (λ (r : Rule). mask r.kills) here;
       genned = ap (λ (r : Rule). mask r.gens) here;
       flagged = ap (λ (r : Rule). r.assign) here;
-      others = λ i m h. ap (λ (r : Rule). rule_by r m) (get_or-set_other rules k i rule no_rule (λ e. omega arith));
+      others = λ i h. get_or-set_other rules k i rule no_rule (λ e. omega arith);
     }
 
 -- one rule more, whatever stands behind it
 pub ruled_put : (code : List Bytecode) (n : ℕ) (rules : List Rule) (kill gen : ℕ) (assign : Bool) (rules₁ : List Rule) → RulePut rules n kill gen assign rules₁
     → ((m : ℕ) → applied assign kill gen m ≡ execute (at code n) m) → RuledTo code n rules → RuledTo code (n + 1) rules₁
 ruled_put code n rules kill gen assign rules₁ put is r = record {
-  each = λ k m h. by_eq k n (λ e. rw (e, put.killed, put.genned, put.flagged) (is m)) (λ g. let before : k < n = omega arith in put.others k m before ∙ r.each k m before);
+  each = λ k m h. by_eq k n (λ e. rw (e, put.killed, put.genned, put.flagged) (is m)) (λ g. let before : k < n = omega arith in ap (λ (r : Rule). rule_by r m) (put.others k before) ∙ r.each k m before);
 }
 
 -- one rule more, stored in the slice

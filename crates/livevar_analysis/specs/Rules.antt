@@ -45,9 +45,9 @@ rule_at rules k m = rule_by (get_or rules k no_rule) m
 pub record Ruled (code : List Bytecode) (rules : List Rule) : Type 0 where
   pub each : (k m : ℕ) → k < length code → rule_at rules k m ≡ execute (at code k) m
 
--- rule k of the slice is (kill, gen, assign) now, and those before it do what they did
+-- rule k of the slice is (kill, gen, assign) now, and those before it are as they were
 pub record RulePut (rules : List Rule) (k kill gen : ℕ) (assign : Bool) (rules₁ : List Rule) : Type 0 where
   pub killed : mask (get_or rules₁ k no_rule).kills ≡ kill
   pub genned : mask (get_or rules₁ k no_rule).gens ≡ gen
   pub flagged : (get_or rules₁ k no_rule).assign ≡ assign
-  pub others : (i m : ℕ) → i < k → rule_at rules₁ i m ≡ rule_at rules i m
+  pub others : (i : ℕ) → i < k → get_or rules₁ i no_rule ≡ get_or rules i no_rule
