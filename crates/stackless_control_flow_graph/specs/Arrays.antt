@@ -6,7 +6,8 @@
 --   marks         offset                              whether a block starts there
 --   lowers        block, by offset                    its lower
 --   uppers        offset                              the upper of its block
---   keys          offset                              one more than the key of the block that starts there, 0 where none does
+--   keys          offset                              in a Numbering, one more than the key of the block that starts there; in an array that is lent
+--                                                     (edges_of, rows_of, spread_in, Reach), that key itself; 0 where none starts
 --   lower_of_key  key, less 2                         the lower of its block
 --   upper_of_key  key, less 2                         the upper of its block (Graph)
 --   key_of_offset offset                              the key of its block (Graph)
@@ -14,7 +15,7 @@
 --   first_edge    key                                 where its part of edges starts; the next key's start ends it (Sorting)
 --   edges         first_edge                          what the key leads to backward (Sorting)
 --   table         block by offset, six places each    its row of the flow table
-use Rattle.std.specs.Prelude.{◌≡◌, Bool, true, false, cond, ℕ, suc, ◌+◌, ◌*◌, ◌≤◌, ◌<◌, get_or, set, length, take, List, [], ◌∷◌, ◌++◌, map, unwrap_or}
+use Rattle.std.specs.Prelude.{◌≡◌, Bool, true, false, cond, ℕ, suc, ◌+◌, ◌*◌, ◌≤◌, ◌<◌, eqb, get_or, set, length, take, List, [], ◌∷◌, ◌++◌, map, unwrap_or}
 use mathlib.Core.List.{Memᴰ}
 use Rattle.base.specs.Lists.{keep, over}
 use Rattle.base.specs.Sizes.{record_bytes, max_instructions}
@@ -63,6 +64,10 @@ pub record Marked (code : List Bytecode) (marks : List Bool) : Type 0 where
 -- the offsets below n that are marked
 unfoldable pub marked_in : List Bool → ℕ → List ℕ
 marked_in marks n = keep n 0 (λ k. get_or marks k false)
+
+-- marks out of bytes: 1 is marked, and no other byte is
+abbrev pub marks_of : List ℕ → List Bool
+marks_of bytes = map (λ b. eqb b 1) bytes
 
 -- the upper of the block of each offset
 pub record Uppers (code : List Bytecode) (uppers : List ℕ) : Type 0 where

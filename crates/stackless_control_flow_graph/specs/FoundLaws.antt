@@ -1,5 +1,5 @@
 -- From found blocks to the arrays that edges and rows are made of: what is asked of them, and what the keys are. Assumes nothing.
-use Rattle.std.specs.Prelude.{◌≡◌, refl, Bool, true, false, cond, Option, Some, None, unwrap_or, ℕ, ◌+◌, ◌*◌, ◌≤◌, ◌<◌, List, ◌++◌, get_or, length, drop}
+use Rattle.std.specs.Prelude.{◌≡◌, refl, cond, Some, None, unwrap_or, ℕ, ◌+◌, ◌*◌, ◌≤◌, ◌<◌, List, ◌++◌, get_or, length, drop}
 use Rattle.std.proofs.Common.{ap, ap₂, ◌∙◌, subst, arith}
 use mathlib.Core.List.{Memᴰ}
 use Rattle.base.specs.Sizes.{row_numbers}

@@ -30,6 +30,11 @@ marked_on marks out k c on h e =
 pub marked_off : (marks : List Bool) (out : List ℕ) (k c : ℕ) → get_or marks k false ≡ false → take c out ≡ marked_in marks k → take c out ≡ marked_in marks (k + 1)
 marked_off marks out k c off e = e ∙ sym (marked_next marks k ∙ ap (λ (b : Bool). marked_in marks k ++ cond b (k ∷ []) []) off ∙ append-nil (marked_in marks k))
 
+-- the first n marks alone decide which offsets below n are marked
+pub marked_same : (marks marks' : List Bool) (n : ℕ) → ((k : ℕ) → k < n → get_or marks k false ≡ get_or marks' k false) → marked_in marks n ≡ marked_in marks' n
+unfolding marked_in
+marked_same marks marks' n same = keep_agree n 0 (λ k. get_or marks k false) (λ k. get_or marks' k false) (λ k l h. same k (omega arith))
+
 -- the end
 pub marked_lowers : (code : List Bytecode) (marks : List Bool) → Marked code marks → marked_in marks (length code) ≡ lowers code
 unfolding marked_in lowers

@@ -1,9 +1,9 @@
 // The blocks by offset: the lower of each, and the upper of the block that an offset stands in. Assumes nothing.
-ghost use Rattle.std.specs.Prelude.{◌≡◌, List, ◌≤◌, ◌<◌, get_or, length, take};
+ghost use Rattle.std.specs.Prelude.{◌≡◌, false, List, ℕ, ◌≤◌, ◌<◌, get_or, length, take};
 ghost use Rattle.base.specs.Sizes.{max_instructions};
 ghost use Rattle.stackless_bytecode.specs.declared.Bytecode.{Bytecode};
 ghost use Rattle.stackless_bytecode.specs.Successors.{successors};
-ghost use Rattle.stackless_control_flow_graph.specs.Arrays.{offsets_of, Within, marked_in, Marked, Uppers, BlockAt, BlocksFound};
+ghost use Rattle.stackless_control_flow_graph.specs.Arrays.{offsets_of, Within, marks_of, marked_in, Marked, Uppers, BlockAt, BlocksFound};
 ghost use Rattle.stackless_control_flow_graph.specs.Blocks.{lowers, blocks_of, upper_of};
 ghost use Rattle.sheet.specs.Code.{code_in};
 
@@ -48,6 +48,43 @@ pub fn find_uppers(marks: &[bool], n: usize, uppers: &mut [u16])
             end = k;
         }
     }
+}
+
+// The first n marks out of bytes: 1 is marked, and no other byte is.
+fn read_marks(bytes: &[u8], n: usize, marks: &mut [bool])
+    requires bytes { n ≤ length bytes.now }
+    requires room { n ≤ length marks.old }
+    ensures { (k : ℕ) → k < n → get_or marks.new k false ≡ get_or (marks_of bytes.now) k false }
+{
+    for k in 0..n {
+        marks[k] = bytes[k] == 1;
+    }
+}
+
+// The same as `list_lowers`, of marks that are bytes: 1 is marked, and no other byte is.
+pub fn list_lowers_of_bytes(bytes: &[u8], n: usize, lowers: &mut [u16]) -> usize
+    requires bytes { n ≤ length bytes.now }
+    requires room { n ≤ length lowers.old }
+    requires few { n ≤ max_instructions }
+    ensures lowers { take result lowers.new ≡ marked_in (marks_of bytes.now) n }
+    ensures count { result ≡ length (marked_in (marks_of bytes.now) n) }
+    ensures within { result ≤ n }
+{
+    let mut marks = [false; MARKS];
+    read_marks(bytes, n, &mut marks);
+    list_lowers(&marks, n, lowers)
+}
+
+// The same as `find_uppers`, of marks that are bytes: 1 is marked, and no other byte is.
+pub fn find_uppers_of_bytes(bytes: &[u8], n: usize, uppers: &mut [u16])
+    requires bytes { n ≤ length bytes.now }
+    requires room { n ≤ length uppers.old }
+    requires few { n ≤ max_instructions }
+    ensures { (code : List Bytecode) → length code ≡ n → Marked code (marks_of bytes.now) → Uppers code uppers.new }
+{
+    let mut marks = [false; MARKS];
+    read_marks(bytes, n, &mut marks);
+    find_uppers(&marks, n, uppers);
 }
 
 // The bounds of block b, by the place of its lower.
