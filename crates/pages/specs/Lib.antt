@@ -1,10 +1,10 @@
 -- What the public contracts and theorems say.
 pub mod Words
-pub mod Bars
 pub mod Code
 pub mod Size
 pub mod Page
 -- What the inner contracts say.
+pub mod Bars
 pub mod Marks
 -- Laws.
 pub mod WordLaws

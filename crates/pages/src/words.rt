@@ -2,6 +2,7 @@
 ghost use Rattle.std.specs.Prelude.{◌≡◌, map, take};
 ghost use Rattle.listing.specs.Writer.{◌with_text◌};
 ghost use Rattle.pages.specs.Words.{word, marked, listed};
+ghost use Rattle.pages.specs.Bars.{barred_word};
 
 use listing::writer::Writer;
 
@@ -12,6 +13,24 @@ pub fn word<'a>(words: &[&'a [u8]], i: usize) -> &'a [u8]
     match words.get(i) {
         Some(w) => w,
         None => b"",
+    }
+}
+
+// Word i of a text that has a bar behind each word, and nothing where it has none.
+#[tactic(auto, using(listing::specs::WriterLaws::texts, crate::specs::BarLaws::bar_steps))]
+pub fn put_word(text: &[u8], i: usize, out: &mut Writer)
+    ensures { out.new ≡ out.old with_text barred_word i text.now }
+{
+    let mut left = i;
+    for &x in text {
+        if x == b'|' {
+            if left == 0 {
+                return;
+            }
+            left -= 1;
+        } else if left == 0 {
+            out.put(&[x]);
+        }
     }
 }
 
