@@ -14,13 +14,13 @@ ghost use Rattle.ancestors.specs.Ancestors.{end_of};
 ghost use Rattle.ancestors.specs.Walking.{listed_by, state_of, Going, PutOn, Stepped};
 
 use crate::chain::{Ways, chain};
-use crate::node_list::NodeList;
+pub use crate::node_list::{NodeList, Path};
 use base::{MAX_LOCALS, MAX_TRIPLES};
 use borrow_analysis::triples::Triples;
 use dataflow_domains::LiveVarState;
 
 pub mod chain; // chain.rt: the triples, chained by the node that they lead to
-mod node_list; // node_list.rt: a list of nodes in an array
+pub mod node_list; // node_list.rt: a list of nodes in a lent slice, and one in an array of its own
 
 // The nodes listed, and how many they are.
 #[derive(Clone, Copy)]
@@ -32,10 +32,10 @@ pub struct Visited {
 // A state of the walk: the path from the node at which it began, the nodes listed, and for each node the place of its scan.
 #[derive(Clone, Copy)]
 pub struct Walk {
-    path: NodeList,
-    listed: NodeList,
-    nodes: LiveVarState,
-    scans: [u16; MAX_LOCALS],
+    pub path: NodeList,
+    pub listed: NodeList,
+    pub nodes: LiveVarState,
+    pub scans: [u16; MAX_LOCALS],
 }
 
 impl Walk {
