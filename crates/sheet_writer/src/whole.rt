@@ -1,4 +1,4 @@
-// A sheet out of its heading and its records: each block handed on as the part of the sheet that it is. Assumes nothing.
+// A sheet out of its heading and its records: each later block handed on as the part of the sheet that it is. Assumes nothing.
 ghost use Rattle.std.specs.Prelude.{◌≡◌, List, ◌++◌, ◌+◌, ◌-◌, ◌*◌, ◌<◌, ◌≤◌, length, drop, replicate};
 ghost use Rattle.base.specs.Sizes.{block_bytes, max_blocks, max_instructions, max_number};
 ghost use Rattle.base.specs.Bytes.{bytes_of};
@@ -28,15 +28,16 @@ fn seal(b: u16, out: &mut [u8])
 }
 
 // The heading of the sheet s, with another count.
-fn put_heading(s: &[u8], n: usize, out: &mut [u8])
+fn heading(s: &[u8], n: usize) -> [u8; BLOCK_BYTES]
     requires heading { block_bytes ≤ length s.now }
     requires few { n ≤ max_number }
-    requires block { length out.old ≡ block_bytes }
-    ensures { out.new ≡ block_of 0 (bytes_of 2 n ++ heading_rest s.now) }
+    ensures { result ≡ block_of 0 (bytes_of 2 n ++ heading_rest s.now) }
 {
-    out[6..BLOCK_BYTES].copy_from_slice(&s[6..BLOCK_BYTES]);
-    put_u16(&mut out[4..6], n as u16);
-    seal(0, out);
+    let mut block = [0; BLOCK_BYTES];
+    block[6..BLOCK_BYTES].copy_from_slice(&s[6..BLOCK_BYTES]);
+    put_u16(&mut block[4..6], n as u16);
+    seal(0, &mut block);
+    block
 }
 
 // A later block of these records.
@@ -78,7 +79,7 @@ pub fn write_sheet(s: &[u8], n: usize, flat: &[u8], out: &mut [u8]) -> u32
     ensures { (code : List Bytecode) → n ≡ length code → Holds flat.now code → SheetWritten (sheet_of (heading_rest s.now) code) out.old result out.new }
 {
     let m = record_blocks(n);
-    put_heading(s, n, &mut out[0..BLOCK_BYTES]);
+    out[0..BLOCK_BYTES].copy_from_slice(&heading(s, n));
     put_all_later(flat, m, &mut out[BLOCK_BYTES..]);
     (BLOCK_BYTES * (1 + m)) as u32
 }

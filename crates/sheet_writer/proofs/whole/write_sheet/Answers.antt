@@ -11,5 +11,5 @@ returns c =
     let long = heading_rest_lem c.args.s.now _ c.requires.heading refl in
     record {
       long = sheet_size _ code _ h _ long m;
-      is = sheet_written _ code _ h _ c.args.out.now _ _ long m (c.put_heading.ensures ∙ ap (λ (x : ℕ). block_of 0 (bytes_of 2 x ++ heading_rest c.args.s.now)) e) c.put_all_later.ensures;
+      is = sheet_written _ code _ h _ c.args.out.now _ _ long m (c.copy_from_slice.ensures.after ∙ c.heading.ensures ∙ ap (λ (x : ℕ). block_of 0 (bytes_of 2 x ++ heading_rest c.args.s.now)) e) c.put_all_later.ensures;
     }
